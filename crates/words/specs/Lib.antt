@@ -1,0 +1,6 @@
+pub mod Sized
+pub mod Bits
+pub mod Rotation
+pub mod Bytes
+pub mod Blocks
+pub mod Inverse
