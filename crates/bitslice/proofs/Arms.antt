@@ -1,0 +1,25 @@
+-- A number reduced by 8 is one of 0 to 7, so number 8 is never given.
+-- Assumes nothing.
+use mathlib.Core.Path.{_≡_}
+use Prim.Native.Nat.{ℕ, _%_, _<_}
+use native.Mathlib.Omega.{arith}
+use borrow.Author.Tests.{le-ltb}
+use Rattle.answers.specs.Answers.{_when_}
+use Rattle.bitslice.specs.Chosen.{boxNumber}
+
+upper : (n : ℕ) → n < 8 → ¬ (n ≡ 4) → ¬ (n ≡ 5) → ¬ (n ≡ 6) → ¬ (n ≡ 7) → n < 4
+upper n l h₄ h₅ h₆ h₇ = omega arith
+
+lower : (n : ℕ) → n < 4 → ¬ (n ≡ 0) → ¬ (n ≡ 1) → ¬ (n ≡ 2) → ¬ (n ≡ 3) → ⊥
+lower n l h₀ h₁ h₂ h₃ = omega arith
+
+-- what the last arm of a match on the eight numbers has, as it has it
+pub no-arm : (i : ℕ) → (((((((Unit {0} × ¬ (i % 8 ≡ 0)) × ¬ (i % 8 ≡ 1)) × ¬ (i % 8 ≡ 2)) × ¬ (i % 8 ≡ 3)) × ¬ (i % 8 ≡ 4)) × ¬ (i % 8 ≡ 5)) × ¬ (i % 8 ≡ 6)) × ¬ (i % 8 ≡ 7) → ⊥
+no-arm i r =
+    lower (i % 8) (upper (i % 8) (omega arith) (r .0 .0 .0 .1) (r .0 .0 .1) (r .0 .1) (r .1))
+    (r .0 .0 .0 .0 .0 .0 .0 .1) (r .0 .0 .0 .0 .0 .0 .1) (r .0 .0 .0 .0 .0 .1) (r .0 .0 .0 .0 .1)
+
+-- so a box is always there
+pub always : (i : ℕ) → boxNumber i ≡ 0
+unfolding _when_
+always i = simp (le-ltb 7 (i % 8) (omega arith))

@@ -1,0 +1,4 @@
+pub mod Circuits
+pub mod Boxes
+pub mod Arms
+pub mod Linear

@@ -1,0 +1,3 @@
+pub mod Boxes
+pub mod Chosen
+pub mod Linear
