@@ -1,11 +1,13 @@
 -- A number reduced by 8 is one of 0 to 7, so number 8 is never given.
 -- Assumes nothing.
 use mathlib.Core.Path.{_≡_}
+use mathlib.Core.List.{List}
 use Prim.Native.Nat.{ℕ, _%_, _<_}
 use native.Mathlib.Omega.{arith}
 use borrow.Author.Tests.{le-ltb}
 use Rattle.answers.specs.Answers.{_when_}
-use Rattle.bitslice.specs.Chosen.{boxNumber}
+use Rattle.answers.proofs.Answers.{done}
+use Rattle.bitslice.specs.Chosen.{boxNumber, chosen}
 
 upper : (n : ℕ) → n < 8 → ¬ (n ≡ 4) → ¬ (n ≡ 5) → ¬ (n ≡ 6) → ¬ (n ≡ 7) → n < 4
 upper n l h₄ h₅ h₆ h₇ = omega arith
@@ -23,3 +25,7 @@ no-arm i r =
 pub always : (i : ℕ) → boxNumber i ≡ 0
 unfolding _when_
 always i = simp (le-ltb 7 (i % 8) (omega arith))
+
+pub chosen-words : (i : ℕ) (words : List ℕ) → chosen (boxNumber i) words .words ≡ words
+unfolding chosen
+chosen-words i words = done _ _ (always i)

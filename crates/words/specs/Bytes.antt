@@ -16,9 +16,13 @@ wordAt b p = wordOf (getD b p 0) (getD b (p + 1) 0) (getD b (p + 2) 0) (getD b (
 unfoldable pub wordsOf : List ℕ → ℕ → List ℕ
 wordsOf b n = listOf (λ i. wordAt b (4 * i)) n
 
+-- byte k of a word
+abbrev pub leByte : ℕ → ℕ → ℕ
+leByte x k = x / 2 ^ (8 * k) % 2 ^ 8
+
 -- byte k of a word string: byte k % 4 of word k / 4
 unfoldable pub byteAt : List ℕ → ℕ → ℕ
-byteAt w k = getD w (k / 4) 0 / 2 ^ (8 * (k % 4)) % 2 ^ 8
+byteAt w k = leByte (getD w (k / 4) 0) (k % 4)
 
 -- the first n bytes of a word string
 unfoldable pub bytesOf : List ℕ → ℕ → List ℕ

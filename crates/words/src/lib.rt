@@ -2,10 +2,9 @@
 pub mod blocks;
 
 ghost use mathlib.Core.Path.{_≡_};
-ghost use mathlib.Core.List.{[], _∷_};
-ghost use Prim.Native.Nat.{_*_, _/_, _%_, _^_, _<_};
+ghost use Prim.Native.Nat.{_%_};
 ghost use Rattle.words.specs.Rotation.{rotl, rotr};
-ghost use Rattle.words.specs.Bytes.{wordOf, wordAt, bytesOf};
+ghost use Rattle.words.specs.Bytes.{wordOf, wordAt, leByte};
 
 // x rotated left by n places, n reduced by 32.
 pub fn rotate_left(x: u32, n: u32) -> u32
@@ -35,17 +34,9 @@ pub fn from_le_bytes(bytes: [u8; 4]) -> u32
     word_of(bytes[0], bytes[1], bytes[2], bytes[3])
 }
 
-// Byte k of a word.
-fn byte_of(x: u32, k: usize) -> u8
-    requires { ⌜ k < 4 ⌝ }
-    ensures { λ r. ⌜ r ≡ x / 2 ^ (8 * k) % 2 ^ 8 ⌝ }
+// Byte k of a word, the lowest first, k reduced by 4.
+pub fn le_byte(x: u32, k: usize) -> u8
+    ensures { λ r. ⌜ r ≡ leByte x (k % 4) ⌝ }
 {
-    ((x >> (8 * k)) % 256) as u8
-}
-
-// The four bytes of a word, the lowest first.
-pub fn to_le_bytes(x: u32) -> [u8; 4]
-    ensures { λ r. ⌜ r ≡ bytesOf (x ∷ []) 4 ⌝ }
-{
-    [byte_of(x, 0), byte_of(x, 1), byte_of(x, 2), byte_of(x, 3)]
+    ((x >> (8 * (k % 4))) % 256) as u8
 }

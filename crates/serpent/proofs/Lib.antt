@@ -1,0 +1,5 @@
+pub mod Padding
+pub mod Keys
+pub mod KeyTest
+pub mod Inverse
+pub mod OneBlock

@@ -1,0 +1,72 @@
+-- One block under a key, over slices: what number 0 tells of the lengths, and what is written then.
+-- Assumes nothing.
+use mathlib.Core.Path.{_≡_, refl, sym, ap, ap₂, _∙_}
+use mathlib.Core.Bool.{Bool, true, false, not}
+use mathlib.Core.List.{List, _++_}
+use Prim.Native.Nat.{ℕ, _≤_}
+use native.Mathlib.Omega.{arith}
+use borrow.Author.Tests.{ltb-false, eqb-true}
+use lib.Dec.{eqb}
+use lib.ListN.{length, drop}
+use lib.Seq.{take-all}
+use Rattle.answers.specs.Answers.{left, front}
+use Rattle.answers.proofs.Answers.{done, passed, not-held, left-done}
+use Rattle.words.specs.Bytes.{bytesOf}
+use Rattle.words.specs.Blocks.{blockAt, putAt}
+use Rattle.words.proofs.Lists.{length-listOf}
+use Rattle.words.proofs.Places.{block-there, put-there}
+use Rattle.serpent.specs.declared.Keyed.{Keyed}
+use Rattle.serpent.specs.Schedule.{schedule}
+use Rattle.serpent.specs.Block.{encryptBytes, decryptBytes}
+use Rattle.serpent.specs.Keys.{keyNumber, keyed}
+use Rattle.serpent.specs.Slices.{blockNumber}
+
+pub record Ready (key block out : ℕ) : Type 0 where
+  pub keys : keyNumber key ≡ 0
+  pub size : block ≡ 16
+  pub room : 16 ≤ out
+
+negated : (b : Bool) → not b ≡ false → b ≡ true
+negated true e = refl
+negated false e = sym e
+
+pub ready : (key block out : ℕ) → blockNumber key block out ≡ 0 → Ready key block out
+unfolding blockNumber
+ready key block out e =
+    let k = passed _ _ e in
+    let b = passed _ _ (k .1) in
+    let o = passed _ _ (b .1) in
+    record {
+      keys = k .0;
+      size = eqb-true block 16 (negated _ (not-held 1 _ (b .0)));
+      room = ltb-false out 16 (not-held 4 _ (o .0));
+    }
+
+-- a block of the size is read whole, and one put in front of a buffer with room fills its first bytes
+whole : (block : List ℕ) → length block ≡ 16 → blockAt block 0 ≡ block
+whole block e = sym (block-there block 0 (omega arith)) ∙ take-all 16 block (omega arith)
+
+in-front : (out answer : List ℕ) → 16 ≤ length out → length answer ≡ 16 → putAt out 0 answer ≡ front answer out
+unfolding front
+in-front out answer h e =
+    sym (put-there out 0 answer (omega arith)) ∙ ap₂ (λ (a : List ℕ) (n : ℕ). a ++ drop n out) (take-all 16 answer (omega arith)) (sym e)
+
+-- for any function of round keys and block that gives sixteen bytes
+module _ (E : List ℕ → List ℕ → List ℕ) (sixteen : (ks b : List ℕ) → length (E ks b) ≡ 16) where
+  pub written : (key block out : List ℕ) {n : ℕ} {r : Keyed} {b answer last : List ℕ}
+      → n ≡ blockNumber (length key) (length block) (length out) → n ≡ 0
+      → r ≡ keyed key → b ≡ blockAt block 0 → answer ≡ E (r .cipher .«round_keys») b → last ≡ putAt out 0 answer
+      → last ≡ left n (E (schedule key) block) out
+  written key block out e z er eb ea el =
+      let ok = ready _ _ _ (sym e ∙ z) in
+      let keys = ap (λ (k : Keyed). k .cipher .«round_keys») er ∙ done _ _ (ok .keys) in
+      let answer = ea ∙ ap₂ E keys (eb ∙ whole block (ok .size)) in
+      el ∙ ap (putAt out 0) answer ∙ in-front out _ (ok .room) (sixteen _ _) ∙ sym (left-done _ _ z)
+
+pub encrypted-sixteen : (ks b : List ℕ) → length (encryptBytes ks b) ≡ 16
+unfolding encryptBytes bytesOf
+encrypted-sixteen ks b = length-listOf _ 16
+
+pub decrypted-sixteen : (ks b : List ℕ) → length (decryptBytes ks b) ≡ 16
+unfolding decryptBytes bytesOf
+decrypted-sixteen ks b = length-listOf _ 16

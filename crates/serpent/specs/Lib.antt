@@ -1,0 +1,5 @@
+pub mod Words
+pub mod Schedule
+pub mod Block
+pub mod Keys
+pub mod Slices

@@ -1,0 +1,234 @@
+// The Serpent block cipher (src/lib.rs of the Rust): key setup, and one block each way.
+pub mod slices;
+
+use answers::DONE;
+use answers::KEY_LENGTH;
+use bitslice::Words;
+use bitslice::apply_s;
+use bitslice::apply_s_inv;
+use bitslice::linear_transform;
+use bitslice::linear_transform_inv;
+use words::from_le_bytes;
+use words::le_byte;
+use words::rotate_left;
+ghost use mathlib.Core.Path.{_≡_};
+ghost use Prim.Native.Nat.{_+_, _≤_, _<_};
+ghost use lib.ListN.{length};
+ghost use Rattle.words.specs.Sized.{four};
+ghost use Rattle.words.specs.Bytes.{wordAt, wordsOf, bytesOf};
+ghost use Rattle.bitslice.specs.Boxes.{boxWords, boxInvWords};
+ghost use Rattle.serpent.specs.Words.{xorWords, stored};
+ghost use Rattle.serpent.specs.Schedule.{padded, prekey, prekeys, roundKeys};
+ghost use Rattle.serpent.specs.Block.{mix, encryptBytes, decryptBytes};
+ghost use Rattle.serpent.specs.Keys.{keyNumber, keyed};
+
+// The 33 round keys, one after the other.
+pub struct Serpent {
+    pub round_keys: [u32; 132],
+}
+
+// What key setup answers. With any number but DONE the record is all zeros.
+pub struct Keyed {
+    pub number: u32,
+    pub cipher: Serpent,
+}
+
+fn xor(b1: Words, k: Words) -> Words
+    ensures { λ r. ⌜ r ≡ xorWords b1 k ⌝ }
+{
+    [b1[0] ^ k[0], b1[1] ^ k[1], b1[2] ^ k[2], b1[3] ^ k[3]]
+}
+
+fn expand_key(source: &[u8]) -> [u8; 32]
+    requires { ⌜ length (now source) ≤ 32 ⌝ }
+    ensures { λ r. ⌜ r ≡ padded (now (source .entry)) ⌝ }
+{
+    let mut key = [0u8; 32];
+    for i in 0..source.len() {
+        key[i] = source[i];
+    }
+    if source.len() < 32 {
+        key[source.len()] = 1;
+    }
+    key
+}
+
+fn word_at(b: &[u8], p: usize) -> u32
+    requires { ⌜ p + 4 ≤ length (now b) ⌝ }
+    ensures { λ r. ⌜ r ≡ wordAt (now (b .entry)) p ⌝ }
+{
+    from_le_bytes([b[p], b[p + 1], b[p + 2], b[p + 3]])
+}
+
+fn read_words(src: [u8; 16]) -> Words
+    ensures { λ r. ⌜ r ≡ wordsOf src 4 ⌝ }
+{
+    [
+        word_at(&src, 0),
+        word_at(&src, 4),
+        word_at(&src, 8),
+        word_at(&src, 12),
+    ]
+}
+
+fn write_words(src: Words) -> [u8; 16]
+    ensures { λ r. ⌜ r ≡ bytesOf src 16 ⌝ }
+{
+    let mut dst = [0u8; 16];
+    for k in 0..16 {
+        dst[k] = le_byte(src[k / 4], k);
+    }
+    dst
+}
+
+// The number that apply_s answers is always DONE: the index is reduced by 8.
+fn s_box(index: usize, words: Words) -> Words
+    ensures { λ r. ⌜ r ≡ boxWords index words ⌝ }
+{
+    let boxed = apply_s(index, words);
+    boxed.words
+}
+
+fn s_box_inv(index: usize, words: Words) -> Words
+    ensures { λ r. ⌜ r ≡ boxInvWords index words ⌝ }
+{
+    let boxed = apply_s_inv(index, words);
+    boxed.words
+}
+
+fn four_words(w: &[u32], p: usize) -> Words
+    requires { ⌜ p + 4 ≤ length (now w) ⌝ }
+    ensures { λ r. ⌜ r ≡ four (now (w .entry)) p ⌝ }
+{
+    [w[p], w[p + 1], w[p + 2], w[p + 3]]
+}
+
+fn store_words(k: &mut [u32; 132], p: usize, w: Words)
+    requires { ⌜ p + 4 ≤ 132 ⌝ }
+    ensures { λ _. ⌜ now (k .exit) ≡ stored (now (k .entry)) p w ⌝ }
+{
+    k[p] = w[0];
+    k[p + 1] = w[1];
+    k[p + 2] = w[2];
+    k[p + 3] = w[3];
+}
+
+// w(i), from the list that holds w(-8) to w(i - 1).
+fn next_prekey(words: &[u32; 140], i: usize) -> u32
+    requires { ⌜ i < 132 ⌝ }
+    ensures { λ r. ⌜ r ≡ prekey (now (words .entry)) i ⌝ }
+{
+    rotate_left(
+        words[i] ^ words[i + 3] ^ words[i + 5] ^ words[i + 7] ^ Serpent::PHI ^ i as u32,
+        11,
+    )
+}
+
+// The eight key words, and the 132 prekeys after them.
+fn make_prekeys(key: [u8; 32]) -> [u32; 140]
+    ensures { λ r. ⌜ r ≡ prekeys (wordsOf key 8) 132 ⌝ }
+{
+    let mut words = [0u32; 140];
+    for i in 0..8 {
+        words[i] = word_at(&key, 4 * i);
+    }
+    for i in 0..132 {
+        words[i + 8] = next_prekey(&words, i);
+    }
+    words
+}
+
+// The 33 round keys, from the prekeys.
+fn make_round_keys(words: &[u32; 140]) -> [u32; 132]
+    ensures { λ r. ⌜ r ≡ roundKeys (now (words .entry)) 33 ⌝ }
+{
+    let mut k = [0u32; 132];
+    for i in 0..Serpent::ROUNDS + 1 {
+        let s = four_words(words, 4 * i + 8);
+        let output = s_box((Serpent::ROUNDS + 3 - i) % Serpent::ROUNDS, s);
+        store_words(&mut k, 4 * i, output);
+    }
+    k
+}
+
+// XOR with round key i.
+fn mix_key(round_keys: &[u32; 132], i: usize, b: Words) -> Words
+    requires { ⌜ i ≤ 32 ⌝ }
+    ensures { λ r. ⌜ r ≡ mix (now («round_keys» .entry)) i b ⌝ }
+{
+    xor(b, four_words(round_keys, 4 * i))
+}
+
+impl Serpent {
+    pub const ROUNDS: usize = 32;
+
+    pub const LEAST_KEY: usize = 16;
+
+    pub const GREATEST_KEY: usize = 32;
+
+    pub const PHI: u32 = 0x9e37_79b9;
+
+    // The number for a key of that many bytes.
+    pub fn key_number(length: usize) -> u32
+        ensures { λ r. ⌜ r ≡ keyNumber length ⌝ }
+    {
+        if length < Self::LEAST_KEY || length > Self::GREATEST_KEY {
+            return KEY_LENGTH;
+        }
+        DONE
+    }
+
+    // Key setup over any bytes.
+    pub fn new_from_slice(key: &[u8]) -> Keyed
+        ensures { λ r. ⌜ r ≡ keyed (now (key .entry)) ⌝ }
+    {
+        let number = Self::key_number(key.len());
+        if number != DONE {
+            return Keyed {
+                number,
+                cipher: Serpent {
+                    round_keys: [0u32; 132],
+                },
+            };
+        }
+        let key = expand_key(key);
+        let words = make_prekeys(key);
+        let round_keys = make_round_keys(&words);
+        Keyed {
+            number,
+            cipher: Serpent { round_keys },
+        }
+    }
+
+    // One block enciphered under any 33 round keys.
+    pub fn encrypt_block(round_keys: &[u32; 132], block: [u8; 16]) -> [u8; 16]
+        ensures { λ r. ⌜ r ≡ encryptBytes (now («round_keys» .entry)) block ⌝ }
+    {
+        let mut b = read_words(block);
+        for i in 0..Self::ROUNDS - 1 {
+            let xb = mix_key(round_keys, i, b);
+            let s = s_box(i, xb);
+            let next = linear_transform(s);
+            b = next;
+        }
+        let xb = mix_key(round_keys, Self::ROUNDS - 1, b);
+        let s = s_box(Self::ROUNDS - 1, xb);
+        write_words(mix_key(round_keys, Self::ROUNDS, s))
+    }
+
+    // One block deciphered under any 33 round keys.
+    pub fn decrypt_block(round_keys: &[u32; 132], block: [u8; 16]) -> [u8; 16]
+        ensures { λ r. ⌜ r ≡ decryptBytes (now («round_keys» .entry)) block ⌝ }
+    {
+        let s = mix_key(round_keys, Self::ROUNDS, read_words(block));
+        let xb = s_box_inv(Self::ROUNDS - 1, s);
+        let mut b = mix_key(round_keys, Self::ROUNDS - 1, xb);
+        for i in 0..Self::ROUNDS - 1 {
+            let s = linear_transform_inv(b);
+            let xb = s_box_inv(30 - i, s);
+            let next = mix_key(round_keys, 30 - i, xb);
+            b = next;
+        }
+        write_words(b)
+    }
+}
