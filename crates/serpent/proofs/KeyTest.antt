@@ -2,13 +2,16 @@
 -- Assumes nothing.
 use mathlib.Core.Path.{_≡_, refl}
 use mathlib.Core.Bool.{Bool, true, false, _||_}
+use mathlib.Core.List.{List}
 use Prim.Native.Nat.{ℕ, _≤_}
 use native.Mathlib.Omega.{arith}
 use borrow.Author.Tests.{le-ltb, ltb-false}
 use lib.Dec.{ltb}
+use lib.ListN.{length}
 use Rattle.answers.specs.Answers.{_when_, onDone, firstOf}
-use Rattle.answers.proofs.Answers.{passed, not-held}
-use Rattle.serpent.specs.Keys.{keyNumber}
+use Rattle.answers.proofs.Answers.{done, passed, not-held}
+use Rattle.serpent.specs.Schedule.{schedule}
+use Rattle.serpent.specs.Keys.{keyNumber, keyed}
 
 -- a length that key setup accepts
 pub record Accepted (n : ℕ) : Type 0 where
@@ -28,3 +31,7 @@ accepted n e =
 pub accepts : (n : ℕ) → Accepted n → keyNumber n ≡ 0
 unfolding keyNumber firstOf onDone _when_
 accepts n h = simp (le-ltb _ _ (h .least), le-ltb _ _ (h .most))
+
+-- an accepted key has its schedule
+pub keyed-accepted : (key : List ℕ) → Accepted (length key) → keyed key .cipher .«round_keys» ≡ schedule key
+keyed-accepted key h = done _ _ (accepts (length key) h)

@@ -5,11 +5,11 @@ use mathlib.Core.Bool.{Bool, true, false, not}
 use mathlib.Core.List.{List, _++_}
 use Prim.Native.Nat.{ℕ, _≤_}
 use native.Mathlib.Omega.{arith}
-use borrow.Author.Tests.{ltb-false, eqb-true}
+use borrow.Author.Tests.{le-ltb, ltb-false, eq-eqb, eqb-true}
 use lib.Dec.{eqb}
 use lib.ListN.{length, drop}
 use lib.Seq.{take-all}
-use Rattle.answers.specs.Answers.{left, front}
+use Rattle.answers.specs.Answers.{_when_, onDone, firstOf, left, front}
 use Rattle.answers.proofs.Answers.{done, passed, not-held, left-done}
 use Rattle.words.specs.Bytes.{bytesOf}
 use Rattle.words.specs.Blocks.{blockAt, putAt}
@@ -42,6 +42,10 @@ ready key block out e =
       room = ltb-false out 16 (not-held 4 _ (o .0));
     }
 
+pub ready-done : (key block out : ℕ) → Ready key block out → blockNumber key block out ≡ 0
+unfolding blockNumber firstOf onDone _when_
+ready-done key block out h = simp (h .keys, eq-eqb _ _ (h .size), le-ltb _ _ (h .room))
+
 -- a block of the size is read whole, and one put in front of a buffer with room fills its first bytes
 whole : (block : List ℕ) → length block ≡ 16 → blockAt block 0 ≡ block
 whole block e = sym (block-there block 0 (omega arith)) ∙ take-all 16 block (omega arith)
@@ -56,12 +60,13 @@ module _ (E : List ℕ → List ℕ → List ℕ) (sixteen : (ks b : List ℕ) �
   pub written : (key block out : List ℕ) {n : ℕ} {r : Keyed} {b answer last : List ℕ}
       → n ≡ blockNumber (length key) (length block) (length out) → n ≡ 0
       → r ≡ keyed key → b ≡ blockAt block 0 → answer ≡ E (r .cipher .«round_keys») b → last ≡ putAt out 0 answer
-      → last ≡ left n (E (schedule key) block) out
+      → last ≡ left (blockNumber (length key) (length block) (length out)) (E (schedule key) block) out
   written key block out e z er eb ea el =
-      let ok = ready _ _ _ (sym e ∙ z) in
+      let zero = sym e ∙ z in
+      let ok = ready _ _ _ zero in
       let keys = ap (λ (k : Keyed). k .cipher .«round_keys») er ∙ done _ _ (ok .keys) in
       let answer = ea ∙ ap₂ E keys (eb ∙ whole block (ok .size)) in
-      el ∙ ap (putAt out 0) answer ∙ in-front out _ (ok .room) (sixteen _ _) ∙ sym (left-done _ _ z)
+      el ∙ ap (putAt out 0) answer ∙ in-front out _ (ok .room) (sixteen _ _) ∙ sym (left-done _ _ zero)
 
 pub encrypted-sixteen : (ks b : List ℕ) → length (encryptBytes ks b) ≡ 16
 unfolding encryptBytes bytesOf

@@ -7,8 +7,7 @@ use words::blocks::block_at;
 use words::blocks::put_block;
 ghost use mathlib.Core.Path.{_≡_};
 ghost use lib.ListN.{length};
-ghost use Rattle.answers.specs.Answers.{left};
-ghost use Rattle.serpent.specs.Slices.{blockNumber, encrypted, decrypted};
+ghost use Rattle.serpent.specs.Slices.{blockNumber, encryptedOut, decryptedOut};
 
 // The tests in their order, on the lengths of key, block and output buffer.
 fn block_number(key: usize, block: usize, out: usize) -> u32
@@ -30,7 +29,7 @@ fn block_number(key: usize, block: usize, out: usize) -> u32
 // One block enciphered under a key, into the first bytes of `out`.
 pub fn encrypt_block(key: &[u8], block: &[u8], out: &mut [u8]) -> u32
     ensures number { λ r. ⌜ r ≡ blockNumber (length (now (key .entry))) (length (now (block .entry))) (length (now (out .entry))) ⌝ }
-    ensures written { λ r. ⌜ now (out .exit) ≡ left r (encrypted (now (key .entry)) (now (block .entry))) (now (out .entry)) ⌝ }
+    ensures written { λ _. ⌜ now (out .exit) ≡ encryptedOut (now (key .entry)) (now (block .entry)) (now (out .entry)) ⌝ }
 {
     let number = block_number(key.len(), block.len(), out.len());
     if number != DONE {
@@ -45,7 +44,7 @@ pub fn encrypt_block(key: &[u8], block: &[u8], out: &mut [u8]) -> u32
 // One block deciphered under a key, into the first bytes of `out`.
 pub fn decrypt_block(key: &[u8], block: &[u8], out: &mut [u8]) -> u32
     ensures number { λ r. ⌜ r ≡ blockNumber (length (now (key .entry))) (length (now (block .entry))) (length (now (out .entry))) ⌝ }
-    ensures written { λ r. ⌜ now (out .exit) ≡ left r (decrypted (now (key .entry)) (now (block .entry))) (now (out .entry)) ⌝ }
+    ensures written { λ _. ⌜ now (out .exit) ≡ decryptedOut (now (key .entry)) (now (block .entry)) (now (out .entry)) ⌝ }
 {
     let number = block_number(key.len(), block.len(), out.len());
     if number != DONE {

@@ -8,7 +8,9 @@ use Rattle.serpent.proofs.slices.decrypt_block.Statement.{statement}
 use Rattle.serpent.proofs.slices.decrypt_block.Tie as tie
 
 returns : tie.Need-returns
-returns c = (c .before .block-number .ensures, sym (left-refused _ _ (c .if1 .taken)))
+returns c =
+    let n = c .before .block-number .ensures in
+    (n, sym (left-refused _ _ (λ z. c .if1 .taken (n ∙ z))))
 
 returns-2 : tie.Need-returns-2
 returns-2 c =
@@ -17,9 +19,10 @@ returns-2 c =
     let read = made .before in
     let keyed = read .before .before .before in
     let tested = keyed .before in
-    let n = tested .before .block-number .ensures in (
+    let n = tested .before .block-number .ensures in
+    let a = tested .before .before .before .before .before .args in (
       n,
-      written decryptBytes decrypted-sixteen _ _ _ n (tested .if1 .left) (keyed .new-from-slice .ensures) (read .block-at .ensures)
+      written decryptBytes decrypted-sixteen (a .key .now) _ _ n (tested .if1 .left) (keyed .new-from-slice .ensures) (read .block-at .ensures)
           (made .decrypt-block .ensures) (put .put-block .ensures),
     )
 

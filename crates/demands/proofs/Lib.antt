@@ -1,0 +1,3 @@
+pub mod Readings
+pub mod Demand1
+pub mod Demand2
