@@ -17,22 +17,24 @@ pub struct Boxed {
     pub words: Words,
 }
 
+// The linear transform of four words.
 pub fn linear_transform(mut words: Words) -> Words
     ensures { λ r. ⌜ r ≡ lt words ⌝ }
 {
     words[0] = rotate_left(words[0], 13);
     words[2] = rotate_left(words[2], 3);
     words[1] ^= words[0] ^ words[2];
-    words[3] = words[3] ^ words[2] ^ (words[0] << 3);
+    words[3] = words[3] ^ words[2] ^ (words[0] << 3); // three high bits drop out
     words[1] = rotate_left(words[1], 1);
     words[3] = rotate_left(words[3], 7);
     words[0] ^= words[1] ^ words[3];
-    words[2] = words[2] ^ words[3] ^ (words[1] << 7);
+    words[2] = words[2] ^ words[3] ^ (words[1] << 7); // seven high bits drop out
     words[0] = rotate_left(words[0], 5);
     words[2] = rotate_left(words[2], 22);
     words
 }
 
+// Its steps undone, in reverse order.
 pub fn linear_transform_inv(mut words: Words) -> Words
     ensures { λ r. ⌜ r ≡ ltInv words ⌝ }
 {

@@ -223,10 +223,11 @@ impl Serpent {
         let s = mix_key(round_keys, Self::ROUNDS, read_words(block));
         let xb = s_box_inv(Self::ROUNDS - 1, s);
         let mut b = mix_key(round_keys, Self::ROUNDS - 1, xb);
-        for i in 0..Self::ROUNDS - 1 {
+        for n in 0..Self::ROUNDS - 1 {
+            let i = 30 - n;
             let s = linear_transform_inv(b);
-            let xb = s_box_inv(30 - i, s);
-            let next = mix_key(round_keys, 30 - i, xb);
+            let xb = s_box_inv(i, s);
+            let next = mix_key(round_keys, i, xb);
             b = next;
         }
         write_words(b)

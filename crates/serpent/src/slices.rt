@@ -36,8 +36,8 @@ pub fn encrypt_block(key: &[u8], block: &[u8], out: &mut [u8]) -> u32
         return number;
     }
     let keyed = Serpent::new_from_slice(key);
-    let b = Serpent::encrypt_block(&keyed.cipher.round_keys, block_at(block, 0));
-    put_block(b, out, 0);
+    let cipher = Serpent::encrypt_block(&keyed.cipher.round_keys, block_at(block, 0));
+    put_block(cipher, out, 0);
     number
 }
 
@@ -51,7 +51,7 @@ pub fn decrypt_block(key: &[u8], block: &[u8], out: &mut [u8]) -> u32
         return number;
     }
     let keyed = Serpent::new_from_slice(key);
-    let b = Serpent::decrypt_block(&keyed.cipher.round_keys, block_at(block, 0));
-    put_block(b, out, 0);
+    let text = Serpent::decrypt_block(&keyed.cipher.round_keys, block_at(block, 0));
+    put_block(text, out, 0);
     number
 }
