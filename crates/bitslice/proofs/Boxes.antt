@@ -7,9 +7,8 @@ use Prim.Native.Nat.{ℕ, _<_, _%_, _^_}
 use native.Mathlib.Nat.{mod-lt}
 use lib.Dec.{T, eqb, ltb, eqb→eq, ltb→lt, lit<}
 use lib.ListN.{getD}
-use lib.Seq.{ext-getD}
 use mir.Facts.{and-yes}
-use Rattle.words.specs.Sized.{FourWords, listOf, four}
+use Rattle.words.specs.Sized.{FourWords, listOf}
 use Rattle.words.specs.Bits.{bit, fromBits}
 use Rattle.words.specs.Inverse.{Inverse}
 use Rattle.words.proofs.Each.{each, at}

@@ -1,6 +1,6 @@
 -- Demand 2, so far as the cipher goes: it is the paper's.
 -- Assumes nothing.
-use mathlib.Core.Path.{_≡_, sym, _∙_}
+use mathlib.Core.Path.{_≡_}
 use mathlib.Core.List.{List}
 use Prim.Native.Nat.{ℕ, _≤_, _^_}
 use lib.ListN.{length}

@@ -5,7 +5,7 @@ use mathlib.Core.List.{List}
 use Prim.Native.Nat.{ℕ, zero, suc, _+_, _*_, _^_, _<_}
 use lib.Bits.{bitXor, xor-lt}
 use lib.ListN.{getD}
-use Rattle.words.specs.Sized.{Sized, FourWords, Block}
+use Rattle.words.specs.Sized.{FourWords, Block}
 use Rattle.words.specs.Inverse.{Inverse}
 use Rattle.words.proofs.Bytes.{bytes-inverse}
 use Rattle.words.proofs.Inverse.{id-inverse, turned, then}

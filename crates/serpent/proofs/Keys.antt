@@ -1,11 +1,11 @@
 -- The prekeys and the round keys, stored one after the other.
 -- Assumes nothing.
 use mathlib.Core.Path.{_≡_, refl, ap, _∙_}
-use mathlib.Core.List.{List, [], _∷_, _++_, append-assoc}
+use mathlib.Core.List.{List, _++_, append-assoc}
 use Prim.Native.Nat.{ℕ, _+_, _*_, _≤_, _<_}
 use native.Mathlib.Numerals.{add-one}
 use native.Mathlib.Omega.{arith}
-use lib.ListN.{length, take, set, getD, length-set}
+use lib.ListN.{length, take, set, length-set}
 use lib.Seq.{getD-take}
 use Rattle.words.proofs.Lists.{filled, four-all}
 use Rattle.serpent.specs.Words.{stored}

@@ -6,7 +6,6 @@ use mathlib.Core.List.{List, _++_}
 use Prim.Native.Nat.{ℕ, _≤_}
 use native.Mathlib.Omega.{arith}
 use borrow.Author.Tests.{le-ltb, ltb-false, eq-eqb, eqb-true}
-use lib.Dec.{eqb}
 use lib.ListN.{length, drop}
 use lib.Seq.{take-all}
 use Rattle.answers.specs.Answers.{_when_, onDone, firstOf, left, front}

@@ -5,7 +5,6 @@ use mathlib.Core.List.{List, [], _∷_}
 use lib.Dec.{ltb}
 use lib.ListN.{length, replicate}
 use Rattle.answers.specs.Answers.{_when_, onDone, firstOf}
-use Rattle.serpent.specs.declared.Serpent.{Serpent}
 use Rattle.serpent.specs.declared.Keyed.{Keyed}
 use Rattle.serpent.specs.Schedule.{schedule}
 

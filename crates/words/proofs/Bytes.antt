@@ -1,6 +1,6 @@
 -- Words as bytes, and back.
 -- Assumes nothing.
-use mathlib.Core.Path.{_≡_, refl, sym, ap, _∙_}
+use mathlib.Core.Path.{_≡_, sym, _∙_}
 use mathlib.Core.List.{List}
 use Prim.Native.Nat.{ℕ, zero, suc, _+_, _*_, _/_, _%_, _^_, _<_}
 use native.Mathlib.Nat.{add-zero, add-comm, mod-lt, mod-eq-of-lt, div-one}
@@ -10,7 +10,7 @@ use lib.Dec.{lit<}
 use lib.ListN.{getD}
 use lib.Pow.{mod-pow-add}
 use lib.Seq.{ext-getD}
-use Rattle.words.specs.Sized.{Sized, FourWords, Block, listOf}
+use Rattle.words.specs.Sized.{FourWords, Block, listOf}
 use Rattle.words.specs.Bytes.{wordOf, wordAt, wordsOf, byteAt, bytesOf}
 use Rattle.words.specs.Inverse.{Inverse}
 use Rattle.words.proofs.Lists.{length-listOf, getD-listOf, sized-listOf, four-all}

@@ -1,12 +1,12 @@
 -- Lists that are filled from the front, lists by their rule, and lists of four.
 -- Assumes nothing.
-use mathlib.Core.Path.{_≡_, refl, ap, _∙_}
-use mathlib.Core.List.{List, [], _∷_, _++_, append-assoc}
-use Prim.Native.Nat.{ℕ, zero, suc, _+_, _≤_, _<_}
+use mathlib.Core.Path.{_≡_, refl, _∙_}
+use mathlib.Core.List.{List, [], _∷_, _++_}
+use Prim.Native.Nat.{ℕ, zero, suc, _+_, _<_}
 use native.Mathlib.Numerals.{add-one}
 use native.Mathlib.Decide.{decLt}
 use native.Mathlib.Omega.{arith}
-use lib.ListN.{length, take, set, getD, length-append, length-set, List·getD-append, List·getD-eq-default}
+use lib.ListN.{length, take, set, getD, length-append, List·getD-append, List·getD-eq-default}
 use lib.Seq.{take-suc-set, getD-at}
 use Rattle.words.specs.Sized.{Sized, listOf, four}
 

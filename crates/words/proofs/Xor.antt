@@ -6,7 +6,7 @@ use Prim.Native.Nat.{ℕ, _+_, _*_, _/_, _%_, _<_}
 use native.Mathlib.Nat.{mod-lt}
 use native.Mathlib.Omega.{arith}
 use lib.Arith.{bin-ind}
-use lib.Dec.{T, eqb, ltb, eqb→eq, ltb→lt, lit<}
+use lib.Dec.{eqb, ltb, eqb→eq, ltb→lt, lit<}
 use lib.Bits.{bitXor, differ, xor-step, xor-self, xor-zero-l, xor-zero-r}
 use Rattle.words.proofs.Each.{each, at}
 

@@ -1,3 +1,4 @@
+-- `serpent::make_prekeys` meets its contract: the first loop reads the eight key words, and after i turns of the second i prekeys stand behind them. Assumes nothing.
 use mathlib.Core.Path.{_≡_, refl}
 use Prim.Native.Nat.{_+_, _-_, _≤_}
 use native.Mathlib.Omega.{arith}

@@ -1,3 +1,4 @@
+-- `serpent::make_round_keys` meets its contract: after i turns the first i round keys stand, four words each. Assumes nothing.
 use mathlib.Core.Path.{_≡_, _∙_, ap}
 use Prim.Native.Nat.{_-_, _*_, _≤_}
 use native.Mathlib.Omega.{arith}

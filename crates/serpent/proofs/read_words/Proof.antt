@@ -1,3 +1,4 @@
+-- `serpent::read_words` meets its contract, word by word. Assumes nothing.
 use borrow.Author.Needs.{needs}
 use Rattle.words.specs.Sized.{listOf}
 use Rattle.words.specs.Bytes.{wordsOf}

@@ -1,6 +1,6 @@
-use mathlib.Core.Path.{_≡_, refl}
+-- `Serpent::decrypt_block` meets its contract: after n turns the rounds that are left to undo give what all 31 give of the words before the loop. Assumes nothing.
+use mathlib.Core.Path.{_≡_}
 use Prim.Native.Nat.{suc, _+_, _-_, _≤_}
-use native.Mathlib.Numerals.{add-one}
 use native.Mathlib.Omega.{arith}
 use borrow.Author.Needs.{needs}
 use Rattle.serpent.specs.Block.{unround, unrounds, decryptWords, decryptBytes}

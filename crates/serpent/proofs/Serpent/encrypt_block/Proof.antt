@@ -1,5 +1,6 @@
+-- `Serpent::encrypt_block` meets its contract: after i turns the words have gone through rounds 0 to i - 1, and the last round stands behind the loop. Assumes nothing.
 use mathlib.Core.Path.{_≡_, refl}
-use Prim.Native.Nat.{_+_, _-_, _≤_}
+use Prim.Native.Nat.{_-_, _≤_}
 use native.Mathlib.Numerals.{add-one}
 use native.Mathlib.Omega.{arith}
 use borrow.Author.Needs.{needs}

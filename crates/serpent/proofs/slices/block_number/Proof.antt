@@ -1,5 +1,5 @@
 -- `serpent::slices::block_number` meets its contract: its tests are the definition's, in order. Assumes nothing.
-use mathlib.Core.Path.{_≡_, sym, _∙_}
+use mathlib.Core.Path.{sym, _∙_}
 use borrow.Author.Needs.{needs}
 use borrow.Author.Tests.{lt-ltb, le-ltb, eq-eqb, ne-eqb}
 use Rattle.answers.specs.Answers.{_when_, onDone, firstOf}
