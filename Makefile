@@ -1,7 +1,13 @@
-# make test: the gate. Everything is proved from nothing, every wrong edit is tried, every program is run.
+# make vectors: a first look. make test: the gate.
 
-.PHONY: test check fmt clean
+.PHONY: vectors test check fmt clean
 
+# Proves the cipher, and shows what the published vectors say of the compiled code.
+vectors:
+	rt check check_vectors
+	cd crates/check_vectors/data && ../../../target/bin/check_vectors
+
+# Everything is proved from nothing, every wrong edit is tried, every program is run.
 # rt's closing line, 'N passed, 0 failed', is the last line of the gate: nothing may follow it.
 test:
 	rt fmt --check
