@@ -1,11 +1,14 @@
 -- What a number tells: of the tests of its order, of a field, and of a buffer.
 -- Assumes nothing.
-use mathlib.Core.Path.{_≡_, refl}
-use mathlib.Core.Bool.{Bool, true, false}
-use mathlib.Core.List.{List, _∷_}
+use mathlib.Core.Path.{_≡_, refl, ap, _∙_}
+use mathlib.Core.Bool.{Bool, true, false, cond}
+use mathlib.Core.List.{List, _∷_, _++_}
 use Prim.Native.Nat.{ℕ, zero, suc}
 use native.Mathlib.Omega.{arith}
 use borrow.Author.Tests.{eq-eqb, ne-eqb}
+use lib.Dec.{eqb}
+use lib.ListN.{length, drop}
+use lib.Seq.{drop-at}
 use Rattle.answers.specs.Answers.{_when_, onDone, firstOf, front, left}
 
 -- ---- fields
@@ -43,3 +46,12 @@ left-done answer out e = done _ _ e
 pub left-refused : {n : ℕ} (answer out : List ℕ) → (n ≡ 0 → ⊥) → left n answer out ≡ out
 unfolding left
 left-refused answer out h = refused _ _ h
+
+-- the bytes past the answer are kept, whatever the number
+pub left-past : (number : ℕ) (answer out : List ℕ) (n : ℕ) → length answer ≡ n → drop n (left number answer out) ≡ drop n out
+unfolding left onDone front
+left-past number answer out n e = by (eqb number 0)
+  where
+    by : (b : Bool) → drop n (cond b (answer ++ drop (length answer) out) out) ≡ drop n out
+    by true = drop-at answer _ n e ∙ ap (λ (k : ℕ). drop k out) e
+    by false = refl

@@ -15,6 +15,7 @@ boxNumber i = 8 when ltb 7 (i % 8)
 unfoldable pub chosen : ℕ → List ℕ → Boxed
 chosen number words = record { number = number; words = onDone number words (replicate 4 0) }
 
+-- box i, and the inverse of box i, chosen
 abbrev pub applied : ℕ → List ℕ → Boxed
 applied i words = chosen (boxNumber i) (boxWords i words)
 

@@ -5,7 +5,7 @@ use lib.Bits.{bitXor}
 use lib.ListN.{getD, set}
 use Rattle.words.specs.Rotation.{rotl, shl}
 
--- a step changes one word: X i rotl n; X i ^= X j ^ X k; X i ^= X j ^ (X k << n)
+-- a step changes one word. `turn i n`: X i rotl n; `mix i j k`: X i ^= X j ^ X k; `mixShl i j k n`: X i ^= X j ^ (X k << n)
 pub data Step : Type 0 where
   turn : ℕ → ℕ → Step
   mix : ℕ → ℕ → ℕ → Step
@@ -37,6 +37,7 @@ unfoldable pub undo : List Step → List Step
 undo [] = []
 undo (s ∷ ss) = undo ss ++ (back s ∷ [])
 
+-- the transform, and its inverse
 abbrev pub lt : List ℕ → List ℕ
 lt words = run linear words
 

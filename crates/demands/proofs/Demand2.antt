@@ -13,7 +13,7 @@ use Rattle.bitslice.specs.Chosen.{boxNumber}
 use Rattle.bitslice.specs.Linear.{lt, ltInv}
 use Rattle.serpent.specs.Schedule.{padded, prekeys, roundKeys, schedule}
 use Rattle.serpent.specs.Block.{encryptBytes, decryptBytes}
-use Rattle.serpent.specs.Keys.{keyed}
+use Rattle.serpent.specs.Keys.{leastKey, greatestKey, keyed}
 use Rattle.serpent.specs.Slices.{encryptedOut, decryptedOut}
 use Rattle.demands.specs.Readings.{table, Hold}
 use Rattle.answers.proofs.Answers.{left-done}
@@ -26,10 +26,10 @@ use Rattle.serpent.proofs.OneBlock.{ready-done}
 use Rattle.demands.proofs.Readings.{readings}
 
 pub record Cipher : Type 0 where
-  -- every key of 16 to 32 bytes is accepted, with the paper's 33 round keys
-  pub round-keys : (key : List ℕ) → 16 ≤ length key → length key ≤ 32 → (keyed key .number ≡ 0) × (keyed key .cipher .«round_keys» ≡ roundKeys (prekeys (wordsOf (padded key) 8) 132) 33)
+  -- every key of the least to the greatest length is accepted, with the paper's 33 round keys
+  pub round-keys : (key : List ℕ) → leastKey ≤ length key → length key ≤ greatestKey → (keyed key .number ≡ 0) × (keyed key .cipher .«round_keys» ≡ roundKeys (prekeys (wordsOf (padded key) 8) 132) 33)
   -- under such a key a block is enciphered, and deciphered, under those round keys
-  pub blocks : (key block out : List ℕ) → 16 ≤ length key → length key ≤ 32 → length block ≡ 16 → 16 ≤ length out
+  pub blocks : (key block out : List ℕ) → leastKey ≤ length key → length key ≤ greatestKey → length block ≡ 16 → 16 ≤ length out
       → (encryptedOut key block out ≡ front (encryptBytes (schedule key) block) out) × (decryptedOut key block out ≡ front (decryptBytes (schedule key) block) out)
   -- each box, and the linear transform, takes four words to four words, and its inverse undoes it both ways
   pub boxes : (i : ℕ) → Inverse FourWords FourWords (boxWords i) (boxInvWords i)

@@ -3,19 +3,24 @@
 use mathlib.Core.Path.{_≡_, refl}
 use mathlib.Core.Bool.{Bool, true, false, _||_}
 use mathlib.Core.List.{List}
-use Prim.Native.Nat.{ℕ, _≤_}
+use mathlib.Core.Logic.{_⊎_, inl, inr}
+use Prim.Native.Nat.{ℕ, _≤_, _<_}
 use native.Mathlib.Omega.{arith}
-use borrow.Author.Tests.{le-ltb, ltb-false}
+use borrow.Author.Tests.{lt-ltb, le-ltb, ltb-false}
 use lib.ListN.{length}
 use Rattle.answers.specs.Answers.{_when_, onDone, firstOf}
 use Rattle.answers.proofs.Answers.{done, passed, not-held}
 use Rattle.serpent.specs.Schedule.{schedule}
-use Rattle.serpent.specs.Keys.{keyNumber, keyed}
+use Rattle.serpent.specs.Keys.{leastKey, greatestKey, keyNumber, keyed}
 
 -- a length that key setup accepts
 pub record Accepted (n : ℕ) : Type 0 where
-  pub least : 16 ≤ n
-  pub most : n ≤ 32
+  pub least : leastKey ≤ n
+  pub most : n ≤ greatestKey
+
+or-true : (a : Bool) → (a || true) ≡ true
+or-true true = refl
+or-true false = refl
 
 neither : (a b : Bool) → (a || b) ≡ false → (a ≡ false) × (b ≡ false)
 neither true b e = let z : _≡_ {A = ℕ} 0 1 = cc in absurd (omega arith)
@@ -30,6 +35,11 @@ accepted n e =
 pub accepts : (n : ℕ) → Accepted n → keyNumber n ≡ 0
 unfolding keyNumber firstOf onDone _when_
 accepts n h = simp (le-ltb _ _ (h .least), le-ltb _ _ (h .most))
+
+pub refuses : (n : ℕ) → (n < leastKey) ⊎ (greatestKey < n) → keyNumber n ≡ 1
+unfolding keyNumber firstOf onDone _when_
+refuses n (inl h) = simp (lt-ltb _ _ h)
+refuses n (inr h) = simp (lt-ltb _ _ h, or-true)
 
 -- an accepted key has its schedule
 pub keyed-accepted : (key : List ℕ) → Accepted (length key) → keyed key .cipher .«round_keys» ≡ schedule key

@@ -3,13 +3,13 @@
 use mathlib.Core.Path.{_≡_, refl, sym, ap, ap₂, _∙_}
 use mathlib.Core.Bool.{Bool, true, false, not}
 use mathlib.Core.List.{List, _++_}
-use Prim.Native.Nat.{ℕ, _≤_}
+use Prim.Native.Nat.{ℕ, suc, _≤_, _<_}
 use native.Mathlib.Omega.{arith}
-use borrow.Author.Tests.{le-ltb, ltb-false, eq-eqb, eqb-true}
+use borrow.Author.Tests.{lt-ltb, le-ltb, ltb-false, eq-eqb, ne-eqb, eqb-true}
 use lib.ListN.{length, drop}
 use lib.Seq.{take-all}
 use Rattle.answers.specs.Answers.{_when_, onDone, firstOf, left, front}
-use Rattle.answers.proofs.Answers.{done, passed, not-held, left-done}
+use Rattle.answers.proofs.Answers.{done, first-here, passed, not-held, left-done}
 use Rattle.words.specs.Bytes.{bytesOf}
 use Rattle.words.specs.Blocks.{blockAt, putAt}
 use Rattle.words.proofs.Lists.{length-listOf}
@@ -44,6 +44,20 @@ ready key block out e =
 pub ready-done : (key block out : ℕ) → Ready key block out → blockNumber key block out ≡ 0
 unfolding blockNumber firstOf onDone _when_
 ready-done key block out h = simp (h .keys, eq-eqb _ _ (h .size), le-ltb _ _ (h .room))
+
+-- the numbers, in their order
+module _ (key block out : ℕ) where
+  pub bad-key : {n : ℕ} → keyNumber key ≡ suc n → blockNumber key block out ≡ suc n
+  unfolding blockNumber
+  bad-key e = first-here _ (λ z. omega arith) ∙ e
+
+  pub bad-block : keyNumber key ≡ 0 → (block ≡ 16 → ⊥) → blockNumber key block out ≡ 2
+  unfolding blockNumber firstOf onDone _when_
+  bad-block e h = simp (e, ne-eqb _ _ h)
+
+  pub short-buffer : keyNumber key ≡ 0 → block ≡ 16 → out < 16 → blockNumber key block out ≡ 5
+  unfolding blockNumber firstOf onDone _when_
+  short-buffer e f h = simp (e, eq-eqb _ _ f, lt-ltb _ _ h)
 
 -- a block of the size is read whole, and one put in front of a buffer with room fills its first bytes
 whole : (block : List ℕ) → length block ≡ 16 → blockAt block 0 ≡ block

@@ -8,9 +8,16 @@ use Rattle.answers.specs.Answers.{_when_, onDone, firstOf}
 use Rattle.serpent.specs.declared.Keyed.{Keyed}
 use Rattle.serpent.specs.Schedule.{schedule}
 
--- the test of a key of n bytes: 1 where it is under 16 or over 32
+-- the bytes of the shortest and of the longest key
+abbrev pub leastKey : ℕ
+leastKey = 16
+
+abbrev pub greatestKey : ℕ
+greatestKey = 32
+
+-- the test of a key of n bytes: 1 where it is shorter or longer
 unfoldable pub keyNumber : ℕ → ℕ
-keyNumber n = firstOf (1 when (ltb n 16 || ltb 32 n) ∷ [])
+keyNumber n = firstOf (1 when (ltb n leastKey || ltb greatestKey n) ∷ [])
 
 -- what key setup answers: the round keys with number 0, and an all-zero record with any other
 abbrev pub keyed : List ℕ → Keyed

@@ -12,13 +12,14 @@ use Rattle.bitslice.specs.Boxes.{boxWords}
 unfoldable pub padded : List ℕ → List ℕ
 padded key = take 32 (key ++ (0x01 ∷ replicate 32 0))
 
+abbrev pub phi : ℕ
+phi = 0x9e37_79b9
+
 -- w(i), of the list that holds w(-8) to w(i - 1) and so has w(i - 8) at place i
 abbrev pub prekey : List ℕ → ℕ → ℕ
 prekey w i =
     rotl 11
-    (bitXor
-    (bitXor (bitXor (bitXor (bitXor (getD w i 0) (getD w (i + 3) 0)) (getD w (i + 5) 0)) (getD w (i + 7) 0)) 0x9e37_79b9)
-    i)
+    (bitXor (bitXor (bitXor (bitXor (bitXor (getD w i 0) (getD w (i + 3) 0)) (getD w (i + 5) 0)) (getD w (i + 7) 0)) phi) i)
 
 -- w(-8) to w(n - 1), from w(-8) to w(-1)
 unfoldable pub prekeys : List ℕ → ℕ → List ℕ
