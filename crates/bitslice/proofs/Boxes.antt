@@ -18,7 +18,7 @@ use Rattle.bitslice.specs.Boxes.{nibbleAt, boxOn, box, boxes, nibbles, i
 use Rattle.bitslice.proofs.Circuits.{nibble-lt, columns, circuits, by-table}
 
 -- ---- a box gives four words
-box-words : (table words : List ℕ) → FourWords (boxOn table words)
+pub box-words : (table words : List ℕ) → FourWords (boxOn table words)
 unfolding boxOn
 box-words table words = sized-listOf _ 4 (2 ^ 32) (lit< tt) (λ i _. fromBits-lt 32 _ (λ j. bit-lt i (getD table (nibbleAt words j) 0)))
 

@@ -21,6 +21,7 @@ use Rattle.bitslice.proofs.Arms.{always}
 use Rattle.bitslice.proofs.Boxes.{box-inverse}
 use Rattle.bitslice.proofs.Linear.{linear-inverse}
 use Rattle.serpent.proofs.Inverse.{block-inverse}
+use Rattle.serpent.proofs.Keys.{schedule-sized}
 use Rattle.serpent.proofs.KeyTest.{Accepted, accepts, keyed-accepted}
 use Rattle.serpent.proofs.OneBlock.{ready-done}
 use Rattle.demands.proofs.Readings.{readings}
@@ -37,6 +38,8 @@ pub record Cipher : Type 0 where
   -- enciphering and deciphering undo each other under any 33 round keys
   pub undone : (ks : List ℕ) → Sized 132 (2 ^ 32) ks → (block : List ℕ) → Block block → decryptBytes ks (encryptBytes ks block) ≡ block
   pub redone : (ks : List ℕ) → Sized 132 (2 ^ 32) ks → (block : List ℕ) → Block block → encryptBytes ks (decryptBytes ks block) ≡ block
+  -- and so under the round keys of any key
+  pub under-a-key : (key block : List ℕ) → Block block → (decryptBytes (schedule key) (encryptBytes (schedule key) block) ≡ block) × (encryptBytes (schedule key) (decryptBytes (schedule key) block) ≡ block)
   -- a box is there for every index: number 8 is never given
   pub boxed : (i : ℕ) → boxNumber i ≡ 0
   -- the readings to check by hand
@@ -53,6 +56,7 @@ cipher = record {
   linear = linear-inverse;
   undone = λ ks s. block-inverse ks (s .small) .undo;
   redone = λ ks s. block-inverse ks (s .small) .redo;
+  under-a-key = λ key block b. let v = block-inverse (schedule key) (schedule-sized key .small) in (v .undo block b, v .redo block b);
   boxed = always;
   read = readings;
 }

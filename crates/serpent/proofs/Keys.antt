@@ -2,14 +2,17 @@
 -- Assumes nothing.
 use mathlib.Core.Path.{_≡_, refl, ap, _∙_}
 use mathlib.Core.List.{List, _++_, append-assoc}
-use Prim.Native.Nat.{ℕ, _+_, _*_, _≤_, _<_}
+use Prim.Native.Nat.{ℕ, zero, suc, _+_, _*_, _^_, _≤_, _<_}
 use native.Mathlib.Numerals.{add-one}
 use native.Mathlib.Omega.{arith}
+use lib.Dec.{lit<}
 use lib.ListN.{length, take, set, length-set}
 use lib.Seq.{getD-take}
-use Rattle.words.proofs.Lists.{filled, four-all}
+use Rattle.words.specs.Sized.{Sized}
+use Rattle.words.proofs.Lists.{filled, sized-append, four-all}
+use Rattle.bitslice.proofs.Boxes.{box-words}
 use Rattle.serpent.specs.Words.{stored}
-use Rattle.serpent.specs.Schedule.{prekey, prekeys, roundKey, roundKeys}
+use Rattle.serpent.specs.Schedule.{prekey, prekeys, roundKey, roundKeys, schedule}
 
 -- a prekey looks at the eight words before it
 prekey-early : (w : List ℕ) (n i : ℕ) → i + 7 < n → prekey (take n w) i ≡ prekey w i
@@ -34,3 +37,15 @@ filled-four l {xs} n m w e b f h =
 pub round-keys-more : (w k : List ℕ) (i : ℕ) (rk : List ℕ) → 4 * i + 4 ≤ length k → length rk ≡ 4 → take (4 * i) k ≡ roundKeys w i → rk ≡ roundKey w i → take (4 * (i + 1)) (stored k (4 * i) rk) ≡ roundKeys w (i + 1)
 unfolding roundKeys
 round-keys-more w k i rk b f h e = filled-four k (4 * i) (4 * (i + 1)) rk (omega arith) b f h ∙ rw (add-one, e)
+
+-- ---- n round keys are 4n words, whatever the prekeys: each is what a box gives
+round-keys-sized : (w : List ℕ) (n : ℕ) → Sized (4 * n) (2 ^ 32) (roundKeys w n)
+unfolding roundKeys
+round-keys-sized w zero = record { len = refl; small = λ i. lit< tt }
+round-keys-sized w (suc n) =
+    let e : 4 * suc n ≡ 4 * n + 4 = omega arith in
+    rw e (sized-append (round-keys-sized w n) (box-words _ _))
+
+pub schedule-sized : (key : List ℕ) → Sized 132 (2 ^ 32) (schedule key)
+unfolding schedule
+schedule-sized key = round-keys-sized _ 33

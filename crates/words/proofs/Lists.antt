@@ -1,13 +1,13 @@
 -- Lists that are filled from the front, lists by their rule, and lists of four.
 -- Assumes nothing.
-use mathlib.Core.Path.{_≡_, refl, _∙_}
+use mathlib.Core.Path.{_≡_, refl, ap₂, _∙_}
 use mathlib.Core.List.{List, [], _∷_, _++_}
-use Prim.Native.Nat.{ℕ, zero, suc, _+_, _<_}
+use Prim.Native.Nat.{ℕ, zero, suc, _+_, _-_, _<_}
 use native.Mathlib.Numerals.{add-one}
 use native.Mathlib.Decide.{decLt}
 use native.Mathlib.Omega.{arith}
 use lib.ListN.{length, take, set, getD, length-append, List·getD-append, List·getD-eq-default}
-use lib.Seq.{take-suc-set, getD-at}
+use lib.Seq.{take-suc-set, getD-at, getD-append-add}
 use Rattle.words.specs.Sized.{Sized, listOf, four}
 
 -- ---- filled from the front: n places hold xs, and v is stored at the next
@@ -43,6 +43,16 @@ module _ (f : ℕ → ℕ) where
       by : (i : ℕ) → Dec (i < n) → getD (listOf f n) i 0 < m
       by i (yes l) = rw (getD-listOf n i l) (h i l)
       by i (no l) = rw (List·getD-eq-default (listOf f n) 0 {n = i} (rw (length-listOf n) (omega arith))) z
+
+-- ---- one list behind another
+pub sized-append : {n k m : ℕ} {a b : List ℕ} → Sized n m a → Sized k m b → Sized (n + k) m (a ++ b)
+sized-append {m = m} {a = a} {b = b} s t = record { len = length-append a b ∙ ap₂ _+_ (s .len) (t .len); small = λ i. by i (decLt i (length a)) }
+  where
+    by : (i : ℕ) → Dec (i < length a) → getD (a ++ b) i 0 < m
+    by i (yes l) = rw (List·getD-append a b 0 i l) (s .small i)
+    by i (no l) =
+        let e : length a + (i - length a) ≡ i = omega arith in
+        rw e at (rw (← (getD-append-add a b (i - length a) 0)) at (t .small (i - length a)))
 
 -- ---- a list of four is its four elements
 pub four-all : (w : List ℕ) → length w ≡ 4 → four w 0 ≡ w
