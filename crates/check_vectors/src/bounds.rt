@@ -1,7 +1,6 @@
 // Keys, blocks and buffers at the bounds of what is taken. Keys and blocks are zeros.
 use crate::say;
 use crate::sets::run;
-use crate::text;
 ghost use Prim.Native.Nat.{_≤_};
 
 // What new_from_slice answers to a key of `size` bytes.
@@ -34,7 +33,7 @@ fn is_kept(out: [u8; 20], from: usize) -> bool
     requires { ⌜ from ≤ 20 ⌝ }
 {
     let was = PATTERN;
-    text::same(&was[from..], &out[from..])
+    check::same(&was[from..], &out[from..])
 }
 
 fn say_call(deciphering: bool, key: usize, block: usize, room: usize) {

@@ -1,10 +1,10 @@
 // Runs published Serpent vectors through the cipher both ways and compares, then tries the bounds
 // of what the operations take. What it must write is in the file stdout.
 mod bounds;
+mod hex;
 mod say;
 mod sets;
 mod tally;
-mod text;
 
 use sets::check_set;
 use tally::Tally;

@@ -1,7 +1,7 @@
 // A set of vectors: its file is read, and each line is run through the cipher both ways.
+use crate::hex;
 use crate::say;
 use crate::tally::Tally;
-use crate::text;
 ghost use Prim.Native.Nat.{_+_, _≤_};
 ghost use lib.ListN.{length};
 ghost use Rattle.io.specs.Counts.{Counts};
@@ -39,7 +39,7 @@ fn field(s: &[u8], from: usize, reversed: bool, out: &mut [u8]) -> usize
     ensures { λ r. ⌜ Counts r (now (out .exit)) ⌝ }
 {
     let e = find(s, from, b' ');
-    text::bytes_of(&s[from..e], reversed, out)
+    hex::bytes_of(&s[from..e], reversed, out)
 }
 
 // The operation that is asked for.
@@ -55,7 +55,7 @@ fn wrong(deciphering: bool, key: &[u8], block: &[u8], wanted: &[u8]) -> u64 {
     // no zeros, which many plain texts are
     let mut out = [255u8; 16];
     let number = run(deciphering, key, block, &mut out);
-    if number == 0 && text::same(&out, wanted) {
+    if number == 0 && check::same(&out, wanted) {
         return 0;
     }
     1
@@ -106,7 +106,7 @@ fn check_line(line: &[u8], reversed: bool, t: Tally) -> Tally {
     let k = field(line, 0, reversed, &mut key);
     let n = field(line, p, reversed, &mut plain);
     // all that is left, so that a fourth field makes the line malformed
-    let m = text::bytes_of(&line[c..], reversed, &mut cipher);
+    let m = hex::bytes_of(&line[c..], reversed, &mut cipher);
     check_texts(&key[..k], &plain[..n], &cipher[..m], t)
 }
 

@@ -39,6 +39,7 @@ fn xor(b1: Words, k: Words) -> Words
     [b1[0] ^ k[0], b1[1] ^ k[1], b1[2] ^ k[2], b1[3] ^ k[3]]
 }
 
+// The key bytes, the mark 0x01 behind them where there is room, and zeros.
 fn expand_key(source: &[u8]) -> [u8; 32]
     requires { ⌜ length (now source) ≤ 32 ⌝ }
     ensures { λ r. ⌜ r ≡ padded (now (source .entry)) ⌝ }
@@ -53,6 +54,7 @@ fn expand_key(source: &[u8]) -> [u8; 32]
     key
 }
 
+// The little-endian word at place p.
 fn word_at(b: &[u8], p: usize) -> u32
     requires { ⌜ p + 4 ≤ length (now b) ⌝ }
     ensures { λ r. ⌜ r ≡ wordAt (now (b .entry)) p ⌝ }
@@ -60,6 +62,7 @@ fn word_at(b: &[u8], p: usize) -> u32
     from_le_bytes([b[p], b[p + 1], b[p + 2], b[p + 3]])
 }
 
+// A block as four little-endian words, and back.
 fn read_words(src: [u8; 16]) -> Words
     ensures { λ r. ⌜ r ≡ wordsOf src 4 ⌝ }
 {
@@ -96,6 +99,7 @@ fn s_box_inv(index: usize, words: Words) -> Words
     boxed.words
 }
 
+// Four words from place p on, read and stored.
 fn four_words(w: &[u32], p: usize) -> Words
     requires { ⌜ p + 4 ≤ length (now w) ⌝ }
     ensures { λ r. ⌜ r ≡ four (now (w .entry)) p ⌝ }

@@ -1,5 +1,5 @@
-// Hexadecimal digits, and texts compared.
-ghost use Prim.Native.Nat.{_+_, _≤_, _<_};
+// Bytes spelt in hexadecimal digits.
+ghost use Prim.Native.Nat.{_≤_, _<_};
 ghost use lib.ListN.{length};
 ghost use Rattle.io.specs.Counts.{Counts};
 
@@ -62,19 +62,4 @@ pub fn bytes_of(hex: &[u8], reversed: bool, out: &mut [u8]) -> usize
         i += 1;
     }
     n
-}
-
-// Whether two texts are the same.
-pub fn same(a: &[u8], b: &[u8]) -> bool {
-    if a.len() != b.len() {
-        return false;
-    }
-    let mut i = 0;
-    while i < a.len() {
-        if a[i] != b[i] {
-            return false;
-        }
-        i += 1;
-    }
-    true
 }

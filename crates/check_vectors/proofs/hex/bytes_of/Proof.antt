@@ -1,12 +1,12 @@
--- `text::bytes_of` keeps within both texts. Assumes nothing.
+-- `hex::bytes_of` keeps within both texts. Assumes nothing.
 use Prim.Native.Nat.{_*_, _≤_, _-_}
 use mathlib.Core.Path.{_≡_}
 use borrow.Author.Needs.{needs}
 use native.Mathlib.Omega.{arith}
 use lib.ListN.{length}
 use Rattle.io.proofs.Counting.{counts}
-use Rattle.check_vectors.proofs.text.bytes_of.Statement.{statement}
-use Rattle.check_vectors.proofs.text.bytes_of.Tie as tie
+use Rattle.check_vectors.proofs.hex.bytes_of.Statement.{statement}
+use Rattle.check_vectors.proofs.hex.bytes_of.Tie as tie
 
 abbrev Inv-loop : tie.InvT-loop
 Inv-loop hex reversed out₀ n i₀ out i = (i ≤ n) × (n ≤ length out) × (2 * n ≤ length hex) × (length out ≡ length out₀)
