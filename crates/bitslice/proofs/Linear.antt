@@ -32,8 +32,6 @@ pub mixedShl : {l m : List ℕ} → l ≡ m → (i j k n : ℕ) → set l i (bit
 unfolding step shl
 mixedShl {l} p i j k n = ap (set l i) (xor-assoc (getD l i 0) (getD l j 0) _) ∙ ap (step (mixShl i j k n)) p
 
-pub ruleset steps = (turned, mixed, mixedShl)
-
 -- ---- a step keeps four words, and is undone
 set-below : (x : List ℕ) (i v : ℕ) → v < 2 ^ 32 → ((k : ℕ) → getD x k 0 < 2 ^ 32) → (k : ℕ) → getD (set x i v) k 0 < 2 ^ 32
 set-below [] i v l h k = h k

@@ -1,5 +1,4 @@
 -- `bitslice::apply_s` meets its contract: each arm is its box, and no index is left over. Assumes nothing.
-use borrow.Author.Needs.{needs}
 use Rattle.bitslice.specs.Boxes.{box}
 use Rattle.bitslice.proofs.Arms.{no-arm, in-arm}
 use Rattle.bitslice.proofs.apply_s.Statement.{statement}
@@ -8,7 +7,7 @@ use Rattle.bitslice.proofs.apply_s.Tie as tie
 pub apply-s-spec : {M : Type 1} → statement M
 apply-s-spec =
     tie.close
-    (tie.spec (search needs) (search needs) (search needs) (search needs) (search needs) (search needs) (search needs) (search needs) (search needs) (search needs) (search needs) (search needs) (search needs) (search needs) (search needs) (search needs) (search needs)
+    (tie.spec (λ c κs. tt) (λ c κs. tt) (λ c κs. tt) (λ c κs. tt) (λ c κs. tt) (λ c κs. tt) (λ c κs. tt) (λ c κs. tt) (λ c κs. tt) (λ c κs. tt) (λ c κs. tt) (λ c κs. tt) (λ c κs. tt) (λ c κs. tt) (λ c κs. tt) (λ c κs. tt) (λ c κs. tt)
     (λ c. in-arm box (c .before .before .before .args .index) _ (c .before .before .match .keys1) (c .before .sbox-e0 .ensures) (c .done .ensures))
     (λ c. in-arm box (c .before .before .before .args .index) _ (c .before .before .match .keys2) (c .before .sbox-e1 .ensures) (c .done2 .ensures))
     (λ c. in-arm box (c .before .before .before .args .index) _ (c .before .before .match .keys3) (c .before .sbox-e2 .ensures) (c .done3 .ensures))

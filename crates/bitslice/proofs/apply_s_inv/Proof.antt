@@ -1,5 +1,4 @@
 -- `bitslice::apply_s_inv` meets its contract: each arm is its box, and no index is left over. Assumes nothing.
-use borrow.Author.Needs.{needs}
 use Rattle.bitslice.specs.Boxes.{box, inverse}
 use Rattle.bitslice.proofs.Arms.{no-arm, in-arm}
 use Rattle.bitslice.proofs.apply_s_inv.Statement.{statement}
@@ -8,7 +7,7 @@ use Rattle.bitslice.proofs.apply_s_inv.Tie as tie
 pub apply-s-inv-spec : {M : Type 1} → statement M
 apply-s-inv-spec =
     tie.close
-    (tie.spec (search needs) (search needs) (search needs) (search needs) (search needs) (search needs) (search needs) (search needs) (search needs) (search needs) (search needs) (search needs) (search needs) (search needs) (search needs) (search needs) (search needs)
+    (tie.spec (λ c κs. tt) (λ c κs. tt) (λ c κs. tt) (λ c κs. tt) (λ c κs. tt) (λ c κs. tt) (λ c κs. tt) (λ c κs. tt) (λ c κs. tt) (λ c κs. tt) (λ c κs. tt) (λ c κs. tt) (λ c κs. tt) (λ c κs. tt) (λ c κs. tt) (λ c κs. tt) (λ c κs. tt)
     (λ c. in-arm (λ k. inverse (box k)) (c .before .before .before .args .index) _ (c .before .before .match .keys1) (c .before .sbox-d0 .ensures) (c .done .ensures))
     (λ c. in-arm (λ k. inverse (box k)) (c .before .before .before .args .index) _ (c .before .before .match .keys2) (c .before .sbox-d1 .ensures) (c .done2 .ensures))
     (λ c. in-arm (λ k. inverse (box k)) (c .before .before .before .args .index) _ (c .before .before .match .keys3) (c .before .sbox-d2 .ensures) (c .done3 .ensures))
