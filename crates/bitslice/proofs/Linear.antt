@@ -17,7 +17,7 @@ use Rattle.words.specs.Rotation.{rotl, shl}
 use Rattle.words.specs.Inverse.{Inverse}
 use Rattle.words.proofs.Rotate.{rotl-lt, rotl-back}
 use Rattle.words.proofs.Xor.{xor-assoc, xor-twice}
-use Rattle.bitslice.specs.Linear.{Step, turn, mix, mixShl, step, run, back, undo, linear, lt, ltInv}
+use Rattle.bitslice.specs.Linear.{Step, turn, mix, mixShl, step, run, back, undo, linear, linearTransform, linearTransformInv}
 
 -- ---- one step more, as the code has it: of a rotation it has the result of a call
 pub turned : {l m : List ℕ} → l ≡ m → (i n : ℕ) {r : ℕ} → r ≡ rotl n (getD l i 0) → set l i r ≡ step (turn i n) m
@@ -109,7 +109,7 @@ run-undo (s ∷ ss) t x h =
     run-append (undo ss) (back s ∷ []) (run ss (step s x))
     ∙ ap (step (back s)) (run-undo ss (t′ .1) (step s x) (step-words s x (t′ .0) h)) ∙ step-back s x (t′ .0) h
 
-pub linear-inverse : Inverse FourWords FourWords lt ltInv
+pub linear-inverse : Inverse FourWords FourWords linearTransform linearTransformInv
 unfolding linear undo back
 linear-inverse = record {
   there = run-words linear tt;

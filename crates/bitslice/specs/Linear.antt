@@ -38,8 +38,8 @@ undo [] = []
 undo (s ∷ ss) = undo ss ++ (back s ∷ [])
 
 -- the transform, and its inverse
-abbrev pub lt : List ℕ → List ℕ
-lt words = run linear words
+abbrev pub linearTransform : List ℕ → List ℕ
+linearTransform words = run linear words
 
-abbrev pub ltInv : List ℕ → List ℕ
-ltInv words = run (undo linear) words
+abbrev pub linearTransformInv : List ℕ → List ℕ
+linearTransformInv words = run (undo linear) words

@@ -7,7 +7,7 @@ ghost use mathlib.Core.Path.{_≡_};
 ghost use lib.ListN.{replicate};
 ghost use Rattle.bitslice.specs.Boxes.{boxOn, box, inverse};
 ghost use Rattle.bitslice.specs.Chosen.{chosen, applied, appliedInv};
-ghost use Rattle.bitslice.specs.Linear.{lt, ltInv};
+ghost use Rattle.bitslice.specs.Linear.{linearTransform, linearTransformInv};
 
 pub type Words = [u32; 4];
 
@@ -19,7 +19,7 @@ pub struct Boxed {
 
 // The linear transform of four words.
 pub fn linear_transform(mut words: Words) -> Words
-    ensures { λ r. ⌜ r ≡ lt words ⌝ }
+    ensures { λ r. ⌜ r ≡ linearTransform words ⌝ }
 {
     words[0] = rotate_left(words[0], 13);
     words[2] = rotate_left(words[2], 3);
@@ -36,7 +36,7 @@ pub fn linear_transform(mut words: Words) -> Words
 
 // Its steps undone, in reverse order.
 pub fn linear_transform_inv(mut words: Words) -> Words
-    ensures { λ r. ⌜ r ≡ ltInv words ⌝ }
+    ensures { λ r. ⌜ r ≡ linearTransformInv words ⌝ }
 {
     words[2] = rotate_right(words[2], 22);
     words[0] = rotate_right(words[0], 5);

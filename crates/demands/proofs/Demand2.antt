@@ -10,7 +10,7 @@ use Rattle.words.specs.Bytes.{wordsOf}
 use Rattle.words.specs.Inverse.{Inverse}
 use Rattle.bitslice.specs.Boxes.{boxWords, boxInvWords}
 use Rattle.bitslice.specs.Chosen.{boxNumber}
-use Rattle.bitslice.specs.Linear.{lt, ltInv}
+use Rattle.bitslice.specs.Linear.{linearTransform, linearTransformInv}
 use Rattle.serpent.specs.Schedule.{padded, prekeys, roundKeys, schedule}
 use Rattle.serpent.specs.Block.{encryptBytes, decryptBytes}
 use Rattle.serpent.specs.Keys.{leastKey, greatestKey, keyed}
@@ -34,7 +34,7 @@ pub record Cipher : Type 0 where
       → (encryptedOut key block out ≡ front (encryptBytes (schedule key) block) out) × (decryptedOut key block out ≡ front (decryptBytes (schedule key) block) out)
   -- each box, and the linear transform, takes four words to four words, and its inverse undoes it both ways
   pub boxes : (i : ℕ) → Inverse FourWords FourWords (boxWords i) (boxInvWords i)
-  pub linear : Inverse FourWords FourWords lt ltInv
+  pub linear : Inverse FourWords FourWords linearTransform linearTransformInv
   -- enciphering and deciphering undo each other under any 33 round keys
   pub undone : (ks : List ℕ) → Sized 132 (2 ^ 32) ks → (block : List ℕ) → Block block → decryptBytes ks (encryptBytes ks block) ≡ block
   pub redone : (ks : List ℕ) → Sized 132 (2 ^ 32) ks → (block : List ℕ) → Block block → encryptBytes ks (decryptBytes ks block) ≡ block

@@ -5,7 +5,7 @@ use Prim.Native.Nat.{ℕ, _%_}
 use lib.ListN.{getD, replicate}
 use Rattle.words.specs.Bytes.{wordsOf}
 use Rattle.bitslice.specs.Boxes.{boxWords}
-use Rattle.bitslice.specs.Linear.{lt}
+use Rattle.bitslice.specs.Linear.{linearTransform}
 use Rattle.serpent.specs.Schedule.{padded, prekeys, boxOfKey}
 
 pub record Row : Type 0 where
@@ -29,8 +29,8 @@ table =
     ∷ record { reading = 4; given = map (λ i. boxOfKey i % 8) (0 ∷ 32 ∷ 3 ∷ 4 ∷ []); read = 3 ∷ 3 ∷ 0 ∷ 7 ∷ [] }
     ∷ record { reading = 5; given = boxWords 0 (zeros 4); read = 0xffffffff ∷ 0xffffffff ∷ 0 ∷ 0 ∷ [] }
     ∷ record { reading = 6; given = boxWords 3 (zeros 4); read = zeros 4 }
-    ∷ record { reading = 7; given = lt (1 ∷ zeros 3); read = 0x100c0000 ∷ 0x00004000 ∷ 0x00002800 ∷ 0x00800000 ∷ [] }
-    ∷ record { reading = 8; given = lt (0x00040000 ∷ zeros 3); read = 0x00000030 ∷ 0x00000001 ∷ 0x20000000 ∷ 0x00000000 ∷ [] }
+    ∷ record { reading = 7; given = linearTransform (1 ∷ zeros 3); read = 0x100c0000 ∷ 0x00004000 ∷ 0x00002800 ∷ 0x00800000 ∷ [] }
+    ∷ record { reading = 8; given = linearTransform (0x00040000 ∷ zeros 3); read = 0x00000030 ∷ 0x00000001 ∷ 0x20000000 ∷ 0x00000000 ∷ [] }
     ∷ []
 
 -- the claim: in each row the two are equal

@@ -4,7 +4,7 @@ use mathlib.Core.List.{List}
 use Rattle.words.specs.Sized.{four}
 use Rattle.words.specs.Bytes.{wordsOf, bytesOf}
 use Rattle.bitslice.specs.Boxes.{boxWords, boxInvWords}
-use Rattle.bitslice.specs.Linear.{lt, ltInv}
+use Rattle.bitslice.specs.Linear.{linearTransform, linearTransformInv}
 use Rattle.serpent.specs.Words.{xorWords}
 
 -- XOR with round key i
@@ -13,10 +13,10 @@ mix ks i b = xorWords b (four ks (4 * i))
 
 -- round i of 0 to 30, and its inverse steps in reverse order
 unfoldable pub round : List ℕ → ℕ → List ℕ → List ℕ
-round ks i b = lt (boxWords i (mix ks i b))
+round ks i b = linearTransform (boxWords i (mix ks i b))
 
 unfoldable pub unround : List ℕ → ℕ → List ℕ → List ℕ
-unround ks i b = mix ks i (boxInvWords i (ltInv b))
+unround ks i b = mix ks i (boxInvWords i (linearTransformInv b))
 
 -- rounds 0 to n - 1
 unfoldable pub rounds : List ℕ → ℕ → List ℕ → List ℕ
