@@ -1,7 +1,7 @@
 -- What a number tells: of the tests of its order, of a field, and of a buffer.
 -- Assumes nothing.
 use mathlib.Core.Path.{_≡_, refl, ap, _∙_}
-use mathlib.Core.Bool.{Bool, true, false, cond}
+use mathlib.Core.Bool.{Bool, true, false, cond, not}
 use mathlib.Core.List.{List, _∷_, _++_}
 use Prim.Native.Nat.{ℕ, zero, suc}
 use native.Mathlib.Omega.{arith}
@@ -37,6 +37,12 @@ pub not-held : (n : ℕ) (b : Bool) → (suc n) when b ≡ 0 → b ≡ false
 unfolding _when_
 not-held n true e = absurd (omega arith)
 not-held n false e = refl
+
+-- a test by `not` that is passed
+pub holds : (n : ℕ) (b : Bool) → (suc n) when not b ≡ 0 → b ≡ true
+unfolding _when_
+holds n true e = refl
+holds n false e = absurd (omega arith)
 
 -- ---- buffers
 pub left-done : {n : ℕ} (answer out : List ℕ) → n ≡ 0 → left n answer out ≡ front answer out

@@ -1,7 +1,6 @@
 -- One block under a key, over slices: what number 0 tells of the lengths, and what is written then.
 -- Assumes nothing.
 use mathlib.Core.Path.{_≡_, refl, sym, ap, ap₂, _∙_}
-use mathlib.Core.Bool.{Bool, true, false, not}
 use mathlib.Core.List.{List, _++_}
 use Prim.Native.Nat.{ℕ, suc, _≤_, _<_}
 use native.Mathlib.Omega.{arith}
@@ -9,11 +8,11 @@ use borrow.Author.Tests.{lt-ltb, le-ltb, ltb-false, eq-eqb, ne-eqb, eqb-true}
 use lib.ListN.{length, drop}
 use lib.Seq.{take-all}
 use Rattle.answers.specs.Answers.{_when_, onDone, firstOf, left, front}
-use Rattle.answers.proofs.Answers.{done, first-here, passed, not-held, left-done}
+use Rattle.answers.proofs.Answers.{done, first-here, passed, not-held, holds, left-done}
 use Rattle.words.specs.Bytes.{bytesOf}
 use Rattle.words.specs.Blocks.{blockAt, putAt}
 use Rattle.words.proofs.Lists.{length-listOf}
-use Rattle.words.proofs.Places.{block-there, put-there}
+use Rattle.words.proofs.Places.{block-whole, put-there}
 use Rattle.serpent.specs.declared.Keyed.{Keyed}
 use Rattle.serpent.specs.Schedule.{schedule}
 use Rattle.serpent.specs.Block.{encryptBytes, decryptBytes}
@@ -25,10 +24,6 @@ pub record Ready (key block out : ℕ) : Type 0 where
   pub size : block ≡ 16
   pub room : 16 ≤ out
 
-negated : (b : Bool) → not b ≡ false → b ≡ true
-negated true e = refl
-negated false e = sym e
-
 pub ready : (key block out : ℕ) → blockNumber key block out ≡ 0 → Ready key block out
 unfolding blockNumber
 ready key block out e =
@@ -37,7 +32,7 @@ ready key block out e =
     let o = passed _ _ (b .1) in
     record {
       keys = k .0;
-      size = eqb-true block 16 (negated _ (not-held 1 _ (b .0)));
+      size = eqb-true block 16 (holds 1 _ (b .0));
       room = ltb-false out 16 (not-held 4 _ (o .0));
     }
 
@@ -59,10 +54,7 @@ module _ (key block out : ℕ) where
   unfolding blockNumber firstOf onDone _when_
   short-buffer e f h = simp (e, eq-eqb _ _ f, lt-ltb _ _ h)
 
--- a block of the size is read whole, and one put in front of a buffer with room fills its first bytes
-whole : (block : List ℕ) → length block ≡ 16 → blockAt block 0 ≡ block
-whole block e = sym (block-there block 0 (omega arith)) ∙ take-all 16 block (omega arith)
-
+-- a block put in front of a buffer with room fills its first bytes
 in-front : (out answer : List ℕ) → 16 ≤ length out → length answer ≡ 16 → putAt out 0 answer ≡ front answer out
 unfolding front
 in-front out answer h e =
@@ -78,7 +70,7 @@ module _ (E : List ℕ → List ℕ → List ℕ) (sixteen : (ks b : List ℕ) �
       let zero = sym e ∙ z in
       let ok = ready _ _ _ zero in
       let keys = ap (λ (k : Keyed). k .cipher .«round_keys») er ∙ done _ _ (ok .keys) in
-      let answer = ea ∙ ap₂ E keys (eb ∙ whole block (ok .size)) in
+      let answer = ea ∙ ap₂ E keys (eb ∙ block-whole block (ok .size)) in
       el ∙ ap (putAt out 0) answer ∙ in-front out _ (ok .room) (sixteen _ _) ∙ sym (left-done _ _ zero)
 
 pub encrypted-sixteen : (ks b : List ℕ) → length (encryptBytes ks b) ≡ 16

@@ -1,11 +1,12 @@
 -- A block at a place that has its sixteen bytes, and at one that has not.
 -- Assumes nothing.
-use mathlib.Core.Path.{_≡_}
+use mathlib.Core.Path.{_≡_, sym, _∙_}
 use mathlib.Core.List.{List}
 use Prim.Native.Nat.{ℕ, _+_, _≤_, _<_}
+use native.Mathlib.Omega.{arith}
 use borrow.Author.Tests.{le-leb, lt-leb}
 use lib.ListN.{length, take, drop, replicate}
-use lib.Seq.{paste}
+use lib.Seq.{paste, take-all}
 use Rattle.words.specs.Blocks.{blockAt, putAt}
 
 module _ (s : List ℕ) (at : ℕ) where
@@ -24,3 +25,7 @@ module _ (s : List ℕ) (at : ℕ) where
   pub put-missing : (block : List ℕ) → length s < at + 16 → s ≡ putAt s at block
   unfolding putAt
   put-missing block h = simp (lt-leb _ _ h)
+
+-- sixteen bytes are the block at their place 0
+pub block-whole : (s : List ℕ) → length s ≡ 16 → blockAt s 0 ≡ s
+block-whole s e = sym (block-there s 0 (omega arith)) ∙ take-all 16 s (omega arith)

@@ -1,4 +1,4 @@
--- Words as bytes, the lowest byte first.
+-- Words as bytes: the lowest byte first in the cipher, the highest first in frames and events.
 use Prim.Native.Nat.{ℕ, _+_, _*_, _/_, _%_, _^_}
 use mathlib.Core.List.{List}
 use lib.ListN.{getD}
@@ -27,3 +27,7 @@ byteAt w k = leByte (getD w (k / 4) 0) (k % 4)
 -- the first n bytes of a word string
 unfoldable pub bytesOf : List ℕ → ℕ → List ℕ
 bytesOf w n = listOf (byteAt w) n
+
+-- the word at place p of a byte string, its highest byte first
+abbrev pub beWordAt : List ℕ → ℕ → ℕ
+beWordAt b p = wordOf (getD b (p + 3) 0) (getD b (p + 2) 0) (getD b (p + 1) 0) (getD b p 0)

@@ -1,10 +1,10 @@
-// What the Rust takes from core: rotations of a word, and words as little-endian bytes.
+// What the Rust takes from core: rotations of a word, and words as bytes.
 pub mod blocks;
 
 ghost use mathlib.Core.Path.{_≡_};
 ghost use Prim.Native.Nat.{_%_};
 ghost use Rattle.words.specs.Rotation.{rotl, rotr};
-ghost use Rattle.words.specs.Bytes.{wordOf, wordAt, leByte};
+ghost use Rattle.words.specs.Bytes.{wordOf, wordAt, leByte, beWordAt};
 
 // x rotated left by n places, n reduced by 32.
 pub fn rotate_left(x: u32, n: u32) -> u32
@@ -32,6 +32,13 @@ pub fn from_le_bytes(bytes: [u8; 4]) -> u32
     ensures { λ r. ⌜ r ≡ wordAt bytes 0 ⌝ }
 {
     word_of(bytes[0], bytes[1], bytes[2], bytes[3])
+}
+
+// The word of four bytes, the highest first.
+pub fn from_be_bytes(bytes: [u8; 4]) -> u32
+    ensures { λ r. ⌜ r ≡ beWordAt bytes 0 ⌝ }
+{
+    word_of(bytes[3], bytes[2], bytes[1], bytes[0])
 }
 
 // Byte k of a word, the lowest first, k reduced by 4.
