@@ -41,7 +41,7 @@ module _ (b : List ℕ) (small : (i : ℕ) → getD b i 0 < 2 ^ 8) (p : ℕ) whe
 sum-up : (a b c d p q r x : ℕ) → p ≡ b * 2 ^ 8 + a → q ≡ c * 2 ^ 16 + p → r ≡ d * 2 ^ 24 + q → r ≡ x → a + b * 2 ^ 8 + c * 2 ^ 16 + d * 2 ^ 24 ≡ x
 sum-up a b c d p q r x e f g h = omega arith
 
-word-back : (x : ℕ) → x < 2 ^ 32 → wordOf (x / 2 ^ 0 % 2 ^ 8) (x / 2 ^ 8 % 2 ^ 8) (x / 2 ^ 16 % 2 ^ 8) (x / 2 ^ 24 % 2 ^ 8) ≡ x
+pub word-back : (x : ℕ) → x < 2 ^ 32 → wordOf (x / 2 ^ 0 % 2 ^ 8) (x / 2 ^ 8 % 2 ^ 8) (x / 2 ^ 16 % 2 ^ 8) (x / 2 ^ 24 % 2 ^ 8) ≡ x
 unfolding wordOf
 word-back x h = rw div-one (sum-up _ _ _ _ _ _ _ x (mod-pow-add x 8 8) (mod-pow-add x 8 16) (mod-pow-add x 8 24) (mod-eq-of-lt h))
 

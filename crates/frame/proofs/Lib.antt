@@ -1,0 +1,3 @@
+pub mod Opening
+pub mod Windows
+pub mod Frames
