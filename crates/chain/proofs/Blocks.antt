@@ -2,11 +2,12 @@
 -- Assumes nothing.
 use mathlib.Core.Path.{_≡_, refl, sym, ap, ap₂, _∙_}
 use mathlib.Core.List.{List, [], _∷_, _++_, append-assoc, append-nil}
-use Prim.Native.Nat.{ℕ, zero, suc, _+_, _-_, _*_, _/_, _≤_}
+use Prim.Native.Nat.{ℕ, zero, suc, _+_, _-_, _*_, _/_, _^_, _≤_, _<_}
 use native.Mathlib.Nat.{le-of-suc-le-suc}
 use native.Mathlib.Omega.{arith}
-use lib.ListN.{length, take, drop, length-append, length-drop}
-use lib.Seq.{drop-drop, take-add, take-at, drop-at, length-take-le}
+use lib.Dec.{lit<}
+use lib.ListN.{length, take, drop, getD, length-append, length-drop, take-append-drop}
+use lib.Seq.{drop-drop, getD-drop, take-add, take-at, drop-at, length-take-le}
 use Rattle.chain.specs.Chain.{blocks, blocksOf, join, Blocks}
 
 -- the block at place i
@@ -19,6 +20,13 @@ over i = omega arith
 
 drop-over : (i : ℕ) (bytes : List ℕ) → drop (i * 16) (drop 16 bytes) ≡ drop (suc i * 16) bytes
 drop-over i bytes = drop-drop (i * 16) 16 bytes ∙ ap (λ (n : ℕ). drop n bytes) (over i)
+
+-- the first bytes of small ones are small
+getD-take-small : (n : ℕ) (bytes : List ℕ) → ((i : ℕ) → getD bytes i 0 < 2 ^ 8) → (i : ℕ) → getD (take n bytes) i 0 < 2 ^ 8
+getD-take-small zero bytes h i = lit< tt
+getD-take-small (suc n) [] h i = h i
+getD-take-small (suc n) (b ∷ bytes) h zero = h zero
+getD-take-small (suc n) (b ∷ bytes) h (suc i) = getD-take-small n bytes (λ j. h (suc j)) i
 
 -- ---- counted
 pub length-blocks : (n : ℕ) (bytes : List ℕ) → length (blocks n bytes) ≡ n
@@ -99,3 +107,19 @@ pub blocks-append : (a b : List (List ℕ)) → Blocks a → Blocks b → Blocks
 unfolding Blocks
 blocks-append [] b h k = k
 blocks-append (c ∷ a) b h k = (h .0, blocks-append a b (h .1) k)
+
+-- ---- bytes of whole blocks
+pub blocks-sized : (n : ℕ) (bytes : List ℕ) → n * 16 ≤ length bytes → ((i : ℕ) → getD bytes i 0 < 2 ^ 8) → Blocks (blocks n bytes)
+unfolding blocks Blocks
+blocks-sized zero bytes h small = tt
+blocks-sized (suc n) bytes h small = (
+  record { len = length-take-le 16 bytes (omega arith); small = λ i. getD-take-small 16 bytes small i },
+  blocks-sized n (drop 16 bytes) (omega (arith, length-drop 16 bytes)) (λ i. rw (getD-drop 16 bytes i 0) (small (16 + i))),
+)
+
+pub join-blocks : (n : ℕ) (bytes : List ℕ) → length bytes ≡ n * 16 → join (blocks n bytes) ≡ bytes
+unfolding blocks join
+join-blocks zero [] h = refl
+join-blocks zero (b ∷ bytes) h = absurd (omega arith)
+join-blocks (suc n) bytes h =
+    ap (λ (l : List ℕ). take 16 bytes ++ l) (join-blocks n (drop 16 bytes) (length-drop 16 bytes ∙ omega arith)) ∙ take-append-drop 16 bytes

@@ -4,3 +4,6 @@ pub mod Links
 pub mod Buffers
 pub mod Numbers
 pub mod Chains
+pub mod Lengths
+pub mod RoundTrip
+pub mod Damage

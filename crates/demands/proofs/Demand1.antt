@@ -1,20 +1,37 @@
--- Demand 1, so far as the cipher goes: every input has its one answer.
+-- Demand 1: every input has its one answer.
 -- Assumes nothing.
-use mathlib.Core.Path.{_≡_, sym, _∙_}
-use mathlib.Core.List.{List}
-use mathlib.Core.Logic.{_⊎_}
-use Prim.Native.Nat.{ℕ, _≤_, _<_}
-use lib.ListN.{length, drop, replicate}
+use mathlib.Core.Path.{_≡_, sym, ap, _∙_}
+use mathlib.Core.Bool.{true, false}
+use mathlib.Core.List.{List, []}
+use mathlib.Core.Logic.{_⊎_, ⊎-elim}
+use Prim.Native.Nat.{ℕ, suc, _+_, _-_, _*_, _/_, _%_, _≤_, _<_}
+use native.Mathlib.Decide.{decLt}
+use native.Mathlib.Omega.{arith}
+use lib.ListN.{length, drop, getD, replicate}
 use denote.Ref.{now}
+use Rattle.answers.proofs.Answers.{done, refused, left-refused, left-past}
 use Rattle.serpent.specs.Keys.{leastKey, greatestKey, keyNumber, keyed}
 use Rattle.serpent.specs.Slices.{blockNumber, encryptedOut, decryptedOut}
-use Rattle.answers.proofs.Answers.{refused, left-refused, left-past}
 use Rattle.serpent.proofs.KeyTest.{accepts, refuses}
-use Rattle.serpent.proofs.OneBlock.{ready-done, bad-key, bad-block, short-buffer, encrypted-sixteen, decrypted-sixteen}
+use Rattle.serpent.proofs.OneBlock as slices
+use Rattle.chain.specs.Slices.{blockLimit, blocksNumber, chainNumber, encryptedChain, decryptedChain}
+use Rattle.chain.proofs.Numbers as chain
+use Rattle.chain.proofs.Lengths.{enciphered-length, deciphered-length}
+use Rattle.event.specs.Event.{readable, eventOf}
+use Rattle.event.specs.Read.{eventNumber, noEvent, reading}
+use Rattle.event.proofs.Events as event
+use Rattle.frame.specs.Frame.{header, version, lengthField, versionByte, startOf, cipherOf, blockCount, frameNumber, opened, frameBlocks}
+use Rattle.frame.specs.Window.{frameTexts, windowNumber, windowOut}
+use Rattle.frame.proofs.Opening as opening
+use Rattle.frame.proofs.Windows as window
+use Rattle.search.specs.Search.{nothing, found, searchNumber, searchAnswer}
+use Rattle.search.proofs.Numbers as numbers
+use Rattle.search.proofs.Turns as turns
 use Rattle.demands.specs.Unique.{Determines, OneResult}
 use Rattle.words.proofs.rotate_left.Reads as rotate_left
 use Rattle.words.proofs.rotate_right.Reads as rotate_right
 use Rattle.words.proofs.from_le_bytes.Reads as from_le_bytes
+use Rattle.words.proofs.from_be_bytes.Reads as from_be_bytes
 use Rattle.words.proofs.le_byte.Reads as le_byte
 use Rattle.words.proofs.blocks.block_at.Reads as block_at
 use Rattle.words.proofs.blocks.put_block.Reads as put_block
@@ -28,28 +45,94 @@ use Rattle.serpent.proofs.Serpent.encrypt_block.Reads as encrypt_block
 use Rattle.serpent.proofs.Serpent.decrypt_block.Reads as decrypt_block
 use Rattle.serpent.proofs.slices.encrypt_block.Reads as encrypt_slice
 use Rattle.serpent.proofs.slices.decrypt_block.Reads as decrypt_slice
+use Rattle.chain.proofs.encrypt_link.Reads as encrypt_link
+use Rattle.chain.proofs.decrypt_link.Reads as decrypt_link
+use Rattle.chain.proofs.encrypt_blocks.Reads as encrypt_blocks
+use Rattle.chain.proofs.decrypt_blocks.Reads as decrypt_blocks
+use Rattle.chain.proofs.encrypt_chain.Reads as encrypt_chain
+use Rattle.chain.proofs.decrypt_chain.Reads as decrypt_chain
+use Rattle.event.proofs.classify.Reads as classify
+use Rattle.event.proofs.class_number.Reads as class_number
+use Rattle.event.proofs.no_event.Reads as no_event
+use Rattle.event.proofs.read_block.Reads as read_block
+use Rattle.event.proofs.read_event.Reads as read_event
+use Rattle.frame.proofs.frame_number.Reads as frame_number
+use Rattle.frame.proofs.open_frame.Reads as opened_frame
+use Rattle.frame.proofs.frame_blocks.Reads as frame_blocks
+use Rattle.frame.proofs.window.read_window.Reads as read_window
+use Rattle.search.proofs.search.Reads as search
+
+-- a key of a length that is taken, and of one that is not
+abbrev pub Taken : ℕ → Type 0
+Taken key = (leastKey ≤ key) × (key ≤ greatestKey)
+
+abbrev pub NotTaken : ℕ → Type 0
+NotTaken key = (key < leastKey) ⊎ (greatestKey < key)
 
 -- the number is given exactly when the table says, in its order; a refusal leaves zeros and changes no byte
 pub record Answers : Type 0 where
-  -- key setup: 1 for a key that is too short or too long, 0 for any other; the record of a refused key is all zeros
-  pub key-refused : (key : List ℕ) → (length key < leastKey) ⊎ (greatestKey < length key) → keyed key .number ≡ 1
-  pub key-done : (key : List ℕ) → leastKey ≤ length key → length key ≤ greatestKey → keyed key .number ≡ 0
+  -- key setup: 1; the record of a refused key is all zeros
+  pub key-1 : (key : List ℕ) → NotTaken (length key) → keyed key .number ≡ 1
+  pub key-0 : (key : List ℕ) → Taken (length key) → keyed key .number ≡ 0
   pub key-zeros : (key : List ℕ) → (keyed key .number ≡ 0 → ⊥) → keyed key .cipher .«round_keys» ≡ replicate 132 0
-  -- a block over slices: 1 as of the key, then 2 for a block of another length, then 5 for a buffer with no room, then 0
-  pub block-1 : (key block out : ℕ) → (key < leastKey) ⊎ (greatestKey < key) → blockNumber key block out ≡ 1
-  pub block-2 : (key block out : ℕ) → leastKey ≤ key → key ≤ greatestKey → (block ≡ 16 → ⊥) → blockNumber key block out ≡ 2
-  pub block-5 : (key block out : ℕ) → leastKey ≤ key → key ≤ greatestKey → block ≡ 16 → out < 16 → blockNumber key block out ≡ 5
-  pub block-0 : (key block out : ℕ) → leastKey ≤ key → key ≤ greatestKey → block ≡ 16 → 16 ≤ out → blockNumber key block out ≡ 0
-  -- where it refuses, every byte of the buffer is as it was; where it is done, those past the sixteenth are
-  pub kept : (key block out : List ℕ) → (blockNumber (length key) (length block) (length out) ≡ 0 → ⊥) → (encryptedOut key block out ≡ out) × (decryptedOut key block out ≡ out)
-  pub past : (key block out : List ℕ) → (drop 16 (encryptedOut key block out) ≡ drop 16 out) × (drop 16 (decryptedOut key block out) ≡ drop 16 out)
+  -- a block over slices, by the lengths of key, block and buffer: 1, 2, 5
+  pub block-1 : (key block out : ℕ) → NotTaken key → blockNumber key block out ≡ 1
+  pub block-2 : (key block out : ℕ) → Taken key → (block ≡ 16 → ⊥) → blockNumber key block out ≡ 2
+  pub block-5 : (key block out : ℕ) → Taken key → block ≡ 16 → out < 16 → blockNumber key block out ≡ 5
+  pub block-0 : (key block out : ℕ) → Taken key → block ≡ 16 → 16 ≤ out → blockNumber key block out ≡ 0
+  -- where it refuses, every byte of the buffer is as it was; and those past the sixteenth are in any case
+  pub block-kept : (key block out : List ℕ) → (blockNumber (length key) (length block) (length out) ≡ 0 → ⊥) → (encryptedOut key block out ≡ out) × (decryptedOut key block out ≡ out)
+  pub block-past : (key block out : List ℕ) → (drop 16 (encryptedOut key block out) ≡ drop 16 out) × (drop 16 (decryptedOut key block out) ≡ drop 16 out)
+  -- a chain, by the lengths of key, text, start block and buffer: 1, 2, 3, 4, 5
+  pub chain-1 : (key text start out : ℕ) → NotTaken key → chainNumber key text start out ≡ 1
+  pub chain-2 : (key text start out : ℕ) → Taken key → (text % 16 ≡ 0 → ⊥) → chainNumber key text start out ≡ 2
+  pub chain-3 : (key text start out : ℕ) → Taken key → text % 16 ≡ 0 → (start ≡ 16 → ⊥) → chainNumber key text start out ≡ 3
+  pub chain-4 : (key text start out : ℕ) → Taken key → text % 16 ≡ 0 → start ≡ 16 → blockLimit < text / 16 → chainNumber key text start out ≡ 4
+  pub chain-5 : (key text start out : ℕ) → Taken key → text % 16 ≡ 0 → start ≡ 16 → text / 16 ≤ blockLimit → out < text → chainNumber key text start out ≡ 5
+  pub chain-0 : (key text start out : ℕ) → Taken key → text % 16 ≡ 0 → start ≡ 16 → text / 16 ≤ blockLimit → text ≤ out → chainNumber key text start out ≡ 0
+  pub chain-kept : (key text start out : List ℕ) → (chainNumber (length key) (length text) (length start) (length out) ≡ 0 → ⊥) → (encryptedChain key text start out ≡ out) × (decryptedChain key text start out ≡ out)
+  pub chain-past : (key text start out : List ℕ) → chainNumber (length key) (length text) (length start) (length out) ≡ 0 → (drop (length text) (encryptedChain key text start out) ≡ drop (length text) out) × (drop (length text) (decryptedChain key text start out) ≡ drop (length text) out)
+  -- under round keys, by the lengths of text and buffer: 2, 5
+  pub blocks-2 : (text out : ℕ) → (text % 16 ≡ 0 → ⊥) → blocksNumber text out ≡ 2
+  pub blocks-5 : (text out : ℕ) → text % 16 ≡ 0 → out < text → blocksNumber text out ≡ 5
+  pub blocks-0 : (text out : ℕ) → text % 16 ≡ 0 → text ≤ out → blocksNumber text out ≡ 0
+  -- opening a frame: 6, 7, 2, 4; with any of them the start block is zeros and the part is empty
+  pub frame-6 : (frame : List ℕ) → (length frame < header) ⊎ (lengthField frame ≡ length frame - 4 → ⊥) → frameNumber frame ≡ 6
+  pub frame-7 : (frame : List ℕ) → header ≤ length frame → lengthField frame ≡ length frame - 4 → (versionByte frame ≡ version → ⊥) → frameNumber frame ≡ 7
+  pub frame-2 : (frame : List ℕ) → header ≤ length frame → lengthField frame ≡ length frame - 4 → versionByte frame ≡ version → ((length frame - header) % 16 ≡ 0 → ⊥) → frameNumber frame ≡ 2
+  pub frame-4 : (frame : List ℕ) → header ≤ length frame → lengthField frame ≡ length frame - 4 → versionByte frame ≡ version → (length frame - header) % 16 ≡ 0 → blockLimit < blockCount frame → frameNumber frame ≡ 4
+  pub frame-0 : (frame : List ℕ) → header ≤ length frame → lengthField frame ≡ length frame - 4 → versionByte frame ≡ version → (length frame - header) % 16 ≡ 0 → blockCount frame ≤ blockLimit → frameNumber frame ≡ 0
+  pub frame-refused : (frame : List ℕ) → (frameNumber frame ≡ 0 → ⊥) → (opened frame .start ≡ replicate 16 0) × (frameBlocks frame ≡ [])
+  pub frame-done : (frame : List ℕ) → frameNumber frame ≡ 0 → (opened frame .start ≡ startOf frame) × (frameBlocks frame ≡ cipherOf frame)
+  -- a window: 1, those of opening, 9, 5
+  pub window-1 : (key : ℕ) (frame : List ℕ) (place count out : ℕ) → NotTaken key → windowNumber key frame place count out ≡ 1
+  pub window-frame : (key : ℕ) (frame : List ℕ) (place count out n : ℕ) → Taken key → frameNumber frame ≡ suc n → windowNumber key frame place count out ≡ suc n
+  pub window-9 : (key : ℕ) (frame : List ℕ) (place count out : ℕ) → Taken key → frameNumber frame ≡ 0 → blockCount frame < place + count → windowNumber key frame place count out ≡ 9
+  pub window-5 : (key : ℕ) (frame : List ℕ) (place count out : ℕ) → Taken key → frameNumber frame ≡ 0 → place + count ≤ blockCount frame → out < count * 16 → windowNumber key frame place count out ≡ 5
+  pub window-0 : (key : ℕ) (frame : List ℕ) (place count out : ℕ) → Taken key → frameNumber frame ≡ 0 → place + count ≤ blockCount frame → count * 16 ≤ out → windowNumber key frame place count out ≡ 0
+  pub window-kept : (key frame : List ℕ) (place count : ℕ) (out : List ℕ) → (windowNumber (length key) frame place count (length out) ≡ 0 → ⊥) → windowOut key frame place count out ≡ out
+  pub window-past : (key frame : List ℕ) (place count : ℕ) (out : List ℕ) → windowNumber (length key) frame place count (length out) ≡ 0 → drop (count * 16) (windowOut key frame place count out) ≡ drop (count * 16) out
+  -- an event: 2, 10; with either of them every field is zero and the class is idle
+  pub event-2 : (bytes : List ℕ) → (length bytes ≡ 16 → ⊥) → reading bytes .number ≡ 2
+  pub event-10 : (bytes : List ℕ) → length bytes ≡ 16 → readable bytes ≡ false → reading bytes .number ≡ 10
+  pub event-0 : (bytes : List ℕ) → length bytes ≡ 16 → readable bytes ≡ true → (reading bytes .number ≡ 0) × (reading bytes .event ≡ eventOf bytes)
+  pub event-zeros : (bytes : List ℕ) → (reading bytes .number ≡ 0 → ⊥) → reading bytes .event ≡ noEvent
+  -- a search: 1, those of opening, 9, with no field but the number; then 11 with the blocks tried, or the first readable event
+  pub search-1 : (key frame : List ℕ) (place : ℕ) → NotTaken (length key) → searchAnswer key frame place ≡ nothing 1 0
+  pub search-frame : (key frame : List ℕ) (place n : ℕ) → Taken (length key) → frameNumber frame ≡ suc n → searchAnswer key frame place ≡ nothing (suc n) 0
+  pub search-9 : (key frame : List ℕ) (place : ℕ) → Taken (length key) → frameNumber frame ≡ 0 → blockCount frame < place → searchAnswer key frame place ≡ nothing 9 0
+  pub search-11 : (key frame : List ℕ) (place : ℕ) → Taken (length key) → frameNumber frame ≡ 0 → place ≤ blockCount frame
+      → ((q : ℕ) → place ≤ q → q < blockCount frame → readable (getD (frameTexts key frame) q []) ≡ false) → searchAnswer key frame place ≡ nothing 11 (blockCount frame - place)
+  pub search-0 : (key frame : List ℕ) (place p : ℕ) → Taken (length key) → frameNumber frame ≡ 0 → place ≤ p → p < blockCount frame → readable (getD (frameTexts key frame) p []) ≡ true
+      → ((q : ℕ) → place ≤ q → q < p → readable (getD (frameTexts key frame) q []) ≡ false) → searchAnswer key frame place ≡ found (frameTexts key frame) place p
 
 -- no two unlike results meet the promise of a public operation, as its source states it. Nor, where a buffer is lent, two unlike
--- contents of it: `s .1 .0` is the second parameter as the operation returns, `s .1 .1 .0` the third
+-- contents of it: `s .1 .0` is the second parameter as the operation returns, `s .1 .1 .0` the third, and so on
 pub record OneAnswer : Type 0 where
   pub rotate-left : OneResult rotate_left.Post
   pub rotate-right : OneResult rotate_right.Post
   pub from-le-bytes : OneResult from_le_bytes.Post
+  pub from-be-bytes : OneResult from_be_bytes.Post
   pub le-byte : OneResult le_byte.Post
   pub block-at : OneResult block_at.Post
   pub put-block-out : Determines put_block.Post (λ κs x s. now (s .1 .0))
@@ -65,21 +148,99 @@ pub record OneAnswer : Type 0 where
   pub encrypt-slice-out : Determines encrypt_slice.Post (λ κs x s. now (s .1 .1 .0))
   pub decrypt-slice : OneResult decrypt_slice.Post
   pub decrypt-slice-out : Determines decrypt_slice.Post (λ κs x s. now (s .1 .1 .0))
+  pub encrypt-link : OneResult encrypt_link.Post
+  pub decrypt-link : OneResult decrypt_link.Post
+  pub encrypt-blocks : OneResult encrypt_blocks.Post
+  pub encrypt-blocks-out : Determines encrypt_blocks.Post (λ κs x s. now (s .1 .1 .1 .0))
+  pub decrypt-blocks : OneResult decrypt_blocks.Post
+  pub decrypt-blocks-out : Determines decrypt_blocks.Post (λ κs x s. now (s .1 .1 .1 .0))
+  pub encrypt-chain : OneResult encrypt_chain.Post
+  pub encrypt-chain-out : Determines encrypt_chain.Post (λ κs x s. now (s .1 .1 .1 .0))
+  pub decrypt-chain : OneResult decrypt_chain.Post
+  pub decrypt-chain-out : Determines decrypt_chain.Post (λ κs x s. now (s .1 .1 .1 .0))
+  pub classify : OneResult classify.Post
+  pub class-number : OneResult class_number.Post
+  pub no-event : OneResult no_event.Post
+  pub read-block : OneResult read_block.Post
+  pub read-event : OneResult read_event.Post
+  pub frame-number : OneResult frame_number.Post
+  pub open-frame : OneResult opened_frame.Post
+  pub frame-blocks : Determines frame_blocks.Post (λ κs x s. now x)
+  pub read-window : OneResult read_window.Post
+  pub read-window-out : Determines read_window.Post (λ κs x s. now (s .1 .1 .1 .1 .0))
+  pub search : OneResult search.Post
 
-accepted : (n : ℕ) → leastKey ≤ n → n ≤ greatestKey → keyNumber n ≡ 0
-accepted n l h = accepts n (record { least = l; most = h })
+accepted : {n : ℕ} → Taken n → keyNumber n ≡ 0
+accepted {n} h = accepts n (record { least = h .0; most = h .1 })
+
+-- a search that is refused answers its number alone
+alone : (key frame : List ℕ) (place n : ℕ) → searchNumber (length key) frame place ≡ suc n → searchAnswer key frame place ≡ nothing (suc n) 0
+unfolding searchAnswer
+alone key frame place n e = refused _ _ (λ z. omega arith) ∙ ap (λ (k : ℕ). nothing k 0) e
+
+-- and one that is begun is that of the texts
+begun : (key frame : List ℕ) (place : ℕ) → Taken (length key) → frameNumber frame ≡ 0 → place ≤ blockCount frame → searchNumber (length key) frame place ≡ 0
+begun key frame place k f w = numbers.ready-done (length key) frame place (record { keys = accepted k; frames = f; within = w })
+
+six : (frame : List ℕ) → (lengthField frame ≡ length frame - 4 → ⊥) → Dec (length frame < header) → frameNumber frame ≡ 6
+six frame h (yes l) = opening.short-frame frame l
+six frame h (no l) = opening.wrong-length frame (omega arith) h
 
 pub answers : Answers
+unfolding searchAnswer reading
 answers = record {
-  key-refused = λ key. refuses (length key);
-  key-done = λ key. accepted (length key);
+  key-1 = λ key. refuses (length key);
+  key-0 = λ key. accepted;
   key-zeros = λ key h. refused _ _ h;
-  block-1 = λ key block out h. bad-key key block out (refuses key h);
-  block-2 = λ key block out l h. bad-block key block out (accepted key l h);
-  block-5 = λ key block out l h. short-buffer key block out (accepted key l h);
-  block-0 = λ key block out l h size room. ready-done key block out (record { keys = accepted key l h; size = size; room = room });
-  kept = λ key block out h. (left-refused _ _ h, left-refused _ _ h);
-  past = λ key block out. (left-past _ _ _ 16 (encrypted-sixteen _ _), left-past _ _ _ 16 (decrypted-sixteen _ _));
+  block-1 = λ key block out h. slices.bad-key key block out (refuses key h);
+  block-2 = λ key block out k. slices.bad-block key block out (accepted k);
+  block-5 = λ key block out k. slices.short-buffer key block out (accepted k);
+  block-0 = λ key block out k size room. slices.ready-done key block out (record { keys = accepted k; size = size; room = room });
+  block-kept = λ key block out h. (left-refused _ _ h, left-refused _ _ h);
+  block-past = λ key block out. (left-past _ _ _ 16 (slices.encrypted-sixteen _ _), left-past _ _ _ 16 (slices.decrypted-sixteen _ _));
+  chain-1 = λ key text start out h. chain.bad-key key text start out (refuses key h);
+  chain-2 = λ key text start out k. chain.ragged key text start out (accepted k);
+  chain-3 = λ key text start out k. chain.bad-start key text start out (accepted k);
+  chain-4 = λ key text start out k. chain.too-many key text start out (accepted k);
+  chain-5 = λ key text start out k. chain.short-buffer key text start out (accepted k);
+  chain-0 = λ key text start out k t s f r. chain.ready-done key text start out (record { keys = accepted k; whole = t; size = s; few = f; room = r });
+  chain-kept = λ key text start out h. (left-refused _ _ h, left-refused _ _ h);
+  chain-past = λ key text start out e.
+      let ok = chain.ready _ _ _ _ e in
+      (left-past _ _ out (length text) (enciphered-length _ start text (ok .whole)), left-past _ _ out (length text) (deciphered-length _ start text (ok .size) (ok .whole)));
+  blocks-2 = chain.ragged-blocks;
+  blocks-5 = chain.short-blocks;
+  blocks-0 = chain.done-blocks;
+  frame-6 = λ frame h. ⊎-elim (opening.short-frame frame) (λ d. six frame d (decLt (length frame) header)) h;
+  frame-7 = opening.wrong-version;
+  frame-2 = opening.ragged;
+  frame-4 = opening.too-many;
+  frame-0 = λ frame l a v w f. opening.opens-done frame (record { long = l; agrees = a; known = v; whole = w; few = f });
+  frame-refused = λ frame h. (refused _ _ h, refused _ _ h);
+  frame-done = λ frame e. (done _ _ e, done _ _ e);
+  window-1 = λ key frame place count out h. window.bad-key key frame place count out (refuses key h);
+  window-frame = λ key frame place count out n k. window.bad-frame key frame place count out (accepted k);
+  window-9 = λ key frame place count out k. window.beyond key frame place count out (accepted k);
+  window-5 = λ key frame place count out k. window.short-buffer key frame place count out (accepted k);
+  window-0 = λ key frame place count out k f w r. window.ready-done key frame place count out (record { keys = accepted k; frames = f; within = w; room = r });
+  window-kept = λ key frame place count out h. left-refused _ _ h;
+  window-past = λ key frame place count out e. left-past _ _ out (count * 16) (window.window-length key frame place count (length out) (window.ready _ _ _ _ _ e));
+  event-2 = λ bytes h. event.bad-length bytes h;
+  event-10 = λ bytes e h. event.unreadable bytes e h;
+  event-0 = λ bytes e h. (event.read-done bytes e h, event.event-done bytes (event.read-done bytes e h));
+  event-zeros = λ bytes h. event.event-refused bytes h;
+  search-1 = λ key frame place h. alone key frame place 0 (numbers.bad-key (length key) frame place (refuses (length key) h));
+  search-frame = λ key frame place n k e. alone key frame place n (numbers.bad-frame (length key) frame place (accepted k) e);
+  search-9 = λ key frame place k f h. alone key frame place 8 (numbers.beyond (length key) frame place (accepted k) f h);
+  search-11 = λ key frame place k f w all.
+      let size : length (frameTexts key frame) ≡ blockCount frame = window.texts-count _ frame in
+      done _ _ (begun key frame place k f w)
+      ∙ turns.none-readable (frameTexts key frame) place (omega arith) (λ q l m. all q l (omega arith))
+      ∙ ap (λ (n : ℕ). nothing 11 (n - place)) size;
+  search-0 = λ key frame place p k f l m e before.
+      let size : length (frameTexts key frame) ≡ blockCount frame = window.texts-count _ frame in
+      done _ _ (begun key frame place k f (omega arith))
+      ∙ turns.first-readable (frameTexts key frame) place p l (omega arith) e before;
 }
 
 -- shown once: a promise is an equation with a function of the inputs
@@ -91,6 +252,7 @@ one-answer = record {
   rotate-left = λ κs a x y s t p q. once p q;
   rotate-right = λ κs a x y s t p q. once p q;
   from-le-bytes = λ κs a x y s t p q. once p q;
+  from-be-bytes = λ κs a x y s t p q. once p q;
   le-byte = λ κs a x y s t p q. once p q;
   block-at = λ κs a x y s t p q. once p q;
   put-block-out = λ κs a x y s t p q. once p q;
@@ -106,4 +268,25 @@ one-answer = record {
   encrypt-slice-out = λ κs a x y s t p q. once (p .1) (q .1);
   decrypt-slice = λ κs a x y s t p q. once (p .0) (q .0);
   decrypt-slice-out = λ κs a x y s t p q. once (p .1) (q .1);
+  encrypt-link = λ κs a x y s t p q. once p q;
+  decrypt-link = λ κs a x y s t p q. once p q;
+  encrypt-blocks = λ κs a x y s t p q. once (p .0) (q .0);
+  encrypt-blocks-out = λ κs a x y s t p q. once (p .1) (q .1);
+  decrypt-blocks = λ κs a x y s t p q. once (p .0) (q .0);
+  decrypt-blocks-out = λ κs a x y s t p q. once (p .1) (q .1);
+  encrypt-chain = λ κs a x y s t p q. once (p .0) (q .0);
+  encrypt-chain-out = λ κs a x y s t p q. once (p .1) (q .1);
+  decrypt-chain = λ κs a x y s t p q. once (p .0) (q .0);
+  decrypt-chain-out = λ κs a x y s t p q. once (p .1) (q .1);
+  classify = λ κs a x y s t p q. once p q;
+  class-number = λ κs a x y s t p q. once p q;
+  no-event = λ κs a x y s t p q. once p q;
+  read-block = λ κs a x y s t p q. once p q;
+  read-event = λ κs a x y s t p q. once p q;
+  frame-number = λ κs a x y s t p q. once p q;
+  open-frame = λ κs a x y s t p q. once p q;
+  frame-blocks = λ κs a x y s t p q. once p q;
+  read-window = λ κs a x y s t p q. once (p .0) (q .0);
+  read-window-out = λ κs a x y s t p q. once (p .1) (q .1);
+  search = λ κs a x y s t p q. once p q;
 }

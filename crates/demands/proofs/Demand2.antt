@@ -1,9 +1,9 @@
--- Demand 2, so far as the cipher goes: it is the paper's.
+-- Demand 2: the cipher is the paper's, and the chain is CBC over it.
 -- Assumes nothing.
 use mathlib.Core.Path.{_≡_}
-use mathlib.Core.List.{List}
-use Prim.Native.Nat.{ℕ, _≤_, _^_}
-use lib.ListN.{length}
+use mathlib.Core.List.{List, [], _∷_}
+use Prim.Native.Nat.{ℕ, _≤_, _<_, _%_, _^_}
+use lib.ListN.{length, take, drop, getD}
 use Rattle.answers.specs.Answers.{front}
 use Rattle.words.specs.Sized.{Sized, FourWords, Block}
 use Rattle.words.specs.Bytes.{wordsOf}
@@ -15,6 +15,10 @@ use Rattle.serpent.specs.Schedule.{padded, prekeys, roundKeys, schedule}
 use Rattle.serpent.specs.Block.{encryptBytes, decryptBytes}
 use Rattle.serpent.specs.Keys.{leastKey, greatestKey, keyed}
 use Rattle.serpent.specs.Slices.{encryptedOut, decryptedOut}
+use Rattle.chain.specs.Chain.{xor, encipher, decipher, blocksOf, join}
+use Rattle.chain.specs.Slices.{enciphered, deciphered, chainNumber, encryptedChain, decryptedChain}
+use Rattle.frame.specs.Frame.{startOf, cipherOf}
+use Rattle.frame.specs.Window.{textsUnder, windowNumber, windowOut}
 use Rattle.demands.specs.Readings.{table, Hold}
 use Rattle.answers.proofs.Answers.{left-done}
 use Rattle.bitslice.proofs.Arms.{always}
@@ -24,6 +28,7 @@ use Rattle.serpent.proofs.Inverse.{block-inverse}
 use Rattle.serpent.proofs.Keys.{schedule-sized}
 use Rattle.serpent.proofs.KeyTest.{Accepted, accepts, keyed-accepted}
 use Rattle.serpent.proofs.OneBlock.{ready-done}
+use Rattle.chain.proofs.RoundTrip.{cipher-equation, text-equation, chain-undone, chain-redone}
 use Rattle.demands.proofs.Readings.{readings}
 
 pub record Cipher : Type 0 where
@@ -42,8 +47,26 @@ pub record Cipher : Type 0 where
   pub under-a-key : (key block : List ℕ) → Block block → (decryptBytes (schedule key) (encryptBytes (schedule key) block) ≡ block) × (encryptBytes (schedule key) (decryptBytes (schedule key) block) ≡ block)
   -- a box is there for every index: number 8 is never given
   pub boxed : (i : ℕ) → boxNumber i ≡ 0
-  -- the readings to check by hand
-  pub read : Hold table
+
+pub record Chain : Type 0 where
+  -- a chain that is done, under a key: the text or the cipher bytes, cut into blocks, enciphered or deciphered from the start block under the key's round keys
+  pub chains : (key bytes start out : List ℕ) → chainNumber (length key) (length bytes) (length start) (length out) ≡ 0
+      → (encryptedChain key bytes start out ≡ front (join (encipher (encryptBytes (schedule key)) start (blocksOf bytes))) out) × (decryptedChain key bytes start out ≡ front (join (decipher (decryptBytes (schedule key)) start (blocksOf bytes))) out)
+  -- a window that is done: so many texts from its place on, of the texts of the whole frame
+  pub windows : (key frame : List ℕ) (place count : ℕ) (out : List ℕ) → windowNumber (length key) frame place count (length out) ≡ 0
+      → windowOut key frame place count out ≡ front (join (take count (drop place (decipher (decryptBytes (schedule key)) (startOf frame) (blocksOf (cipherOf frame)))))) out
+  -- SP 800-38A's equations, for any block function: the block at place j is made of its text and the cipher block before it, the start block before the first
+  pub cipher-block : (E : List ℕ → List ℕ) (start : List ℕ) (texts : List (List ℕ)) (j : ℕ) → j < length texts
+      → getD (encipher E start texts) j [] ≡ E (xor (getD texts j []) (getD (start ∷ encipher E start texts) j []))
+  pub text-block : (D : List ℕ → List ℕ) (start : List ℕ) (ciphers : List (List ℕ)) (j : ℕ) → j < length ciphers
+      → getD (decipher D start ciphers) j [] ≡ xor (D (getD ciphers j [])) (getD (start ∷ ciphers) j [])
+  -- deciphering a chain undoes enciphering it, and the other way round, under any 33 round keys
+  pub undone : (ks start bytes : List ℕ) → Sized 132 (2 ^ 32) ks → Block start → length bytes % 16 ≡ 0 → ((i : ℕ) → getD bytes i 0 < 2 ^ 8) → deciphered ks start (enciphered ks start bytes) ≡ bytes
+  pub redone : (ks start bytes : List ℕ) → Sized 132 (2 ^ 32) ks → Block start → length bytes % 16 ≡ 0 → ((i : ℕ) → getD bytes i 0 < 2 ^ 8) → enciphered ks start (deciphered ks start bytes) ≡ bytes
+
+-- the readings to check by hand
+pub Read : Type 0
+Read = Hold table
 
 pub cipher : Cipher
 unfolding schedule
@@ -58,5 +81,19 @@ cipher = record {
   redone = λ ks s. block-inverse ks (s .small) .redo;
   under-a-key = λ key block b. let v = block-inverse (schedule key) (schedule-sized key .small) in (v .undo block b, v .redo block b);
   boxed = always;
-  read = readings;
 }
+
+pub chain : Chain
+unfolding enciphered deciphered textsUnder
+chain = record {
+  chains = λ key bytes start out e. (left-done _ _ e, left-done _ _ e);
+  windows = λ key frame place count out e. left-done _ _ e;
+  cipher-block = cipher-equation;
+  text-block = text-equation;
+  undone = chain-undone;
+  redone = chain-redone;
+}
+
+pub read : Read
+unfolding Read
+read = readings

@@ -1,3 +1,5 @@
 pub mod Readings
 pub mod Demand1
 pub mod Demand2
+mod Same
+pub mod Demand3
