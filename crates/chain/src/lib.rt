@@ -67,14 +67,14 @@ fn decrypt_all(round_keys: &[u32; 132], cipher: &[u8], start: [u8; 16], out: &mu
     }
 }
 
-// The tests under round keys in their order, on the lengths of text and output buffer.
-fn blocks_number(text: usize, out: usize) -> u32
-    ensures { λ r. ⌜ r ≡ blocksNumber text out ⌝ }
+// The tests under round keys in their order, on the lengths of text or cipher bytes and output buffer.
+fn blocks_number(bytes: usize, out: usize) -> u32
+    ensures { λ r. ⌜ r ≡ blocksNumber bytes out ⌝ }
 {
-    if text % 16 != 0 {
+    if bytes % 16 != 0 {
         return TEXT_LENGTH;
     }
-    if out < text {
+    if out < bytes {
         return OUT_SHORT;
     }
     DONE
