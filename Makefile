@@ -1,6 +1,11 @@
-# make vectors: a first look. make test: the gate.
+# make log: a first look. make test: the gate.
 
-.PHONY: vectors test check fmt clean
+.PHONY: log vectors test check fmt clean
+
+# Proves the log, and shows a sample log before and after one bit of it is flipped.
+log:
+	rt check check_log
+	cd crates/check_log/data && ../../../target/bin/check_log
 
 # Proves the cipher, and shows what the published vectors say of the compiled code.
 vectors:

@@ -17,7 +17,7 @@ use Rattle.serpent.proofs.OneBlock as slices
 use Rattle.chain.specs.Slices.{blockLimit, blocksNumber, chainNumber, encryptedChain, decryptedChain}
 use Rattle.chain.proofs.Numbers as chain
 use Rattle.chain.proofs.Lengths.{enciphered-length, deciphered-length}
-use Rattle.event.specs.Event.{readable, eventOf}
+use Rattle.event.specs.Event.{classNumber, readable, eventOf}
 use Rattle.event.specs.Read.{eventNumber, noEvent, reading}
 use Rattle.event.proofs.Events as event
 use Rattle.frame.specs.Frame.{header, version, lengthField, versionByte, startOf, cipherOf, blockCount, frameNumber, opened, frameBlocks}
@@ -117,6 +117,8 @@ pub record Answers : Type 0 where
   pub event-10 : (bytes : List ℕ) → length bytes ≡ 16 → readable bytes ≡ false → reading bytes .number ≡ 10
   pub event-0 : (bytes : List ℕ) → length bytes ≡ 16 → readable bytes ≡ true → (reading bytes .number ≡ 0) × (reading bytes .event ≡ eventOf bytes)
   pub event-zeros : (bytes : List ℕ) → (reading bytes .number ≡ 0 → ⊥) → reading bytes .event ≡ noEvent
+  -- the class that is handed out is never the unreadable one, 5
+  pub event-class : (bytes : List ℕ) → classNumber (reading bytes .event .class) ≤ 4
   -- a search: 1, those of opening, 9, with no field but the number; then 11 with the blocks tried, or the first readable event
   pub search-1 : (key frame : List ℕ) (place : ℕ) → NotTaken (length key) → searchAnswer key frame place ≡ nothing 1 0
   pub search-frame : (key frame : List ℕ) (place n : ℕ) → Taken (length key) → frameNumber frame ≡ suc n → searchAnswer key frame place ≡ nothing (suc n) 0
@@ -229,6 +231,7 @@ answers = record {
   event-10 = λ bytes e h. event.unreadable bytes e h;
   event-0 = λ bytes e h. (event.read-done bytes e h, event.event-done bytes (event.read-done bytes e h));
   event-zeros = λ bytes h. event.event-refused bytes h;
+  event-class = event.class-low;
   search-1 = λ key frame place h. alone key frame place 0 (numbers.bad-key (length key) frame place (refuses (length key) h));
   search-frame = λ key frame place n k e. alone key frame place n (numbers.bad-frame (length key) frame place (accepted k) e);
   search-9 = λ key frame place k f h. alone key frame place 8 (numbers.beyond (length key) frame place (accepted k) f h);

@@ -99,7 +99,7 @@ module _ (key start : List ℕ) (pre old new rest : List (List ℕ)) (h : Replac
 
   later-texts : drop (length pre + length new + 1) (frameTexts key (is key start pre old new rest)) ≡ drop (length pre + length old + 1) (frameTexts key (was key start pre old new rest))
   later-texts =
-      rw (is-texts, was-texts, ← (length-append pre new), ← (length-append pre old), add-one, add-one)
+      rw (is-texts, was-texts, ← (length-append pre new), ← (length-append pre old), add-one (length (pre ++ new)), add-one (length (pre ++ old)))
       (chain.later-same D start (pre ++ old) (pre ++ new) rest)
 
   -- d blocks further on
