@@ -15,10 +15,10 @@ abbrev pub block : ℕ → List ℕ → List ℕ
 block i bytes = take 16 (drop (i * 16) bytes)
 
 -- sixteen bytes more are one block more
-over : (i : ℕ) → 16 + i * 16 ≡ suc i * 16
+pub over : (i : ℕ) → 16 + i * 16 ≡ suc i * 16
 over i = omega arith
 
-drop-over : (i : ℕ) (bytes : List ℕ) → drop (i * 16) (drop 16 bytes) ≡ drop (suc i * 16) bytes
+pub drop-over : (i : ℕ) (bytes : List ℕ) → drop (i * 16) (drop 16 bytes) ≡ drop (suc i * 16) bytes
 drop-over i bytes = drop-drop (i * 16) 16 bytes ∙ ap (λ (n : ℕ). drop n bytes) (over i)
 
 -- the first bytes of small ones are small

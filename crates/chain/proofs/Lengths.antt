@@ -11,7 +11,7 @@ use Rattle.serpent.proofs.OneBlock.{encrypted-sixteen, decrypted-sixteen}
 use Rattle.chain.specs.Chain.{xor, encipher, decipher, blocks, blocksOf, join}
 use Rattle.chain.specs.Slices.{enciphered, deciphered}
 use Rattle.chain.proofs.Xors.{length-xor}
-use Rattle.chain.proofs.Blocks.{length-blocks}
+use Rattle.chain.proofs.Blocks.{over, length-blocks}
 use Rattle.chain.proofs.Links.{length-decipher}
 
 unfoldable pub Sixteens : List (List ℕ) → Type 0
@@ -22,9 +22,6 @@ pub length-sixteens : (bs : List (List ℕ)) → Sixteens bs → length (join bs
 unfolding join Sixteens
 length-sixteens [] h = refl
 length-sixteens (b ∷ bs) h = length-append b (join bs) ∙ ap₂ (λ (x y : ℕ). x + y) (h .0) (length-sixteens bs (h .1)) ∙ over (length bs)
-  where
-    over : (n : ℕ) → 16 + n * 16 ≡ suc n * 16
-    over n = omega arith
 
 pub sixteens-take : (n : ℕ) (bs : List (List ℕ)) → Sixteens bs → Sixteens (take n bs)
 unfolding Sixteens

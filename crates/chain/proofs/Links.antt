@@ -7,9 +7,8 @@ use native.Mathlib.Nat.{le-of-suc-le-suc}
 use native.Mathlib.Numerals.{add-one}
 use native.Mathlib.Omega.{arith}
 use lib.ListN.{length, take, drop, getD}
-use lib.Seq.{drop-drop}
 use Rattle.chain.specs.Chain.{xor, encipher, decipher, lastOr, blocks, join}
-use Rattle.chain.proofs.Blocks.{block, blocks-more, join-more, take-blocks, drop-blocks}
+use Rattle.chain.proofs.Blocks.{block, drop-over, blocks-more, join-more, take-blocks, drop-blocks}
 
 -- ---- the last block
 pub lastOr-append : (s : List ℕ) (a b : List (List ℕ)) → lastOr s (a ++ b) ≡ lastOr (lastOr s a) b
@@ -62,10 +61,7 @@ module _ (D : List ℕ → List ℕ) where
   text-at s (suc n) zero c h = refl
   text-at s (suc n) (suc p) c h =
       text-at (take 16 c) n p (drop 16 c) (le-of-suc-le-suc h)
-      ∙ ap (λ (l : List ℕ). xor (D (take 16 l)) (lastOr (take 16 c) (blocks p (drop 16 c)))) (drop-drop (p * 16) 16 c ∙ ap (λ (m : ℕ). drop m c) (over p))
-    where
-      over : (i : ℕ) → 16 + i * 16 ≡ suc i * 16
-      over i = omega arith
+      ∙ ap (λ (l : List ℕ). xor (D (take 16 l)) (lastOr (take 16 c) (blocks p (drop 16 c)))) (drop-over p c)
 
   -- a window is a chain of its own, that starts from the cipher block before it
   pub window : (s c : List ℕ) (n i m : ℕ) → i + m ≤ n → decipher D (lastOr s (blocks i c)) (blocks m (drop (i * 16) c)) ≡ take m (drop i (decipher D s (blocks n c)))

@@ -18,7 +18,7 @@ use Rattle.chain.specs.Slices.{blockLimit, blocksNumber, chainNumber, encrypted
 use Rattle.chain.proofs.Numbers as chain
 use Rattle.chain.proofs.Lengths.{enciphered-length, deciphered-length}
 use Rattle.event.specs.Event.{classNumber, readable, eventOf}
-use Rattle.event.specs.Read.{eventNumber, noEvent, reading}
+use Rattle.event.specs.Read.{noEvent, reading}
 use Rattle.event.proofs.Events as event
 use Rattle.frame.specs.Frame.{header, version, lengthField, versionByte, startOf, cipherOf, blockCount, frameNumber, opened, frameBlocks}
 use Rattle.frame.specs.Window.{frameTexts, windowNumber, windowOut}

@@ -6,7 +6,6 @@ use Rattle.answers.specs.Answers.{onDone}
 use Rattle.words.specs.Sized.{Block}
 use Rattle.chain.specs.Chain.{Blocks}
 use Rattle.chain.specs.Slices.{blockLimit}
-use Rattle.frame.specs.Frame.{frameOf}
 use Rattle.search.specs.declared.Searched.{Searched}
 
 -- in the frame of pre, run and rest, the run old is replaced by the run new: both frames are within the limit, and the length field

@@ -1,7 +1,7 @@
 -- `chain::decrypt_all` meets its contract: after i turns `before` is the cipher block before place i, and the first i texts stand in front of the buffer.
 -- Assumes nothing.
 use Prim.Native.Nat.{ℕ, _-_, _/_, _≤_}
-use mathlib.Core.Path.{_≡_, refl, sym, ap, ap₂, _∙_}
+use mathlib.Core.Path.{_≡_, refl, sym, ap₂, _∙_}
 use mathlib.Core.List.{List}
 use borrow.Author.Needs.{needs}
 use native.Mathlib.Omega.{arith}

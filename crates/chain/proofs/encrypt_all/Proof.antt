@@ -1,7 +1,7 @@
 -- `chain::encrypt_all` meets its contract: after i turns `before` is the last cipher block made, the start block before the first, and the first i cipher blocks stand in front of the buffer.
 -- Assumes nothing.
 use Prim.Native.Nat.{ℕ, _-_, _/_, _≤_}
-use mathlib.Core.Path.{_≡_, refl, sym, ap, ap₂, _∙_}
+use mathlib.Core.Path.{_≡_, refl, sym, ap₂, _∙_}
 use mathlib.Core.List.{List}
 use borrow.Author.Needs.{needs}
 use native.Mathlib.Omega.{arith}

@@ -1,7 +1,5 @@
 -- `chain::encrypt_link` meets its contract: the XOR, then the cipher. Assumes nothing.
-use mathlib.Core.Path.{ap, _∙_}
 use borrow.Author.Needs.{needs}
-use Rattle.serpent.specs.Block.{encryptBytes}
 use Rattle.chain.proofs.encrypt_link.Statement.{statement}
 use Rattle.chain.proofs.encrypt_link.Tie as tie
 
