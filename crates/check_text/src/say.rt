@@ -1,5 +1,7 @@
 // The lines that the program writes.
 use crate::tally::Tally;
+ghost use mathlib.Core.Path.{_≡_};
+ghost use lib.IntN.{natAbs};
 
 pub fn text(s: &[u8]) {
     io::write_all(libc::STDOUT_FILENO, s);
@@ -7,6 +9,24 @@ pub fn text(s: &[u8]) {
 
 pub fn number(n: u64) {
     io::print_decimal(libc::STDOUT_FILENO, n);
+}
+
+// How far a number is from zero.
+pub fn magnitude(n: i64) -> u64
+    ensures { λ r. ⌜ r ≡ natAbs n ⌝ }
+{
+    if n < 0 {
+        return (-1 - n) as u64 + 1;
+    }
+    n as u64
+}
+
+// A number with its sign, where it is below zero.
+pub fn signed(n: i64) {
+    if n < 0 {
+        text(b"-");
+    }
+    number(magnitude(n));
 }
 
 // A count and what is counted.
