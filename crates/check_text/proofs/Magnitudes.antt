@@ -1,5 +1,5 @@
--- How far a number of 64 bits is from zero. A signed local reads back the number that was put in. Assumes nothing.
-use mathlib.Core.Path.{_≡_, refl, sym, ap, _∙_, subst}
+-- Signed numbers: one of 32 bits as one of 64, and how far one of 64 bits is from zero. A signed local reads back the number that was put in. Assumes nothing.
+use mathlib.Core.Path.{_≡_, sym, ap, _∙_, subst}
 use mathlib.Core.Bool.{true, false, true≢false}
 use Prim.Native.Nat.{ℕ, zero, suc, _+_, _<_, _^_}
 use native.Mathlib.Omega.{arith}
@@ -8,9 +8,17 @@ use borrow.Author.Tests.{ltb-true, le-ltb}
 use lib.Dec.{T}
 use lib.IntN.{ℤ, pos, negsuc, natAbs, _-ℤ_}
 use lib.Signed.{ltZ, nonNeg}
-use mir.Syntax.{w64}
+use mir.Syntax.{w32, w64}
 use mir.Val.{Fits, SFits, toZ, ofZ}
-use mir.Facts.{toZ-ofZ}
+use mir.Facts.{toZ-ofZ, sfits-widen}
+
+-- a number of 32 bits, as it is read at 64
+module _ {z : ℤ} (fits : SFits w32 z) where
+  pub wide-fits : SFits w64 (toZ w32 (ofZ w32 z))
+  wide-fits = subst (SFits w64) (sym (toZ-ofZ {w = w32} fits)) (sfits-widen {w = w32} tt fits)
+
+  pub wide-read : toZ w64 (ofZ w64 (toZ w32 (ofZ w32 z))) ≡ z
+  wide-read = toZ-ofZ {w = w64} wide-fits ∙ toZ-ofZ {w = w32} fits
 
 -- a number that is not negative and, with so many more, as far from zero as z
 pub record Distance (y z : ℤ) (more : ℕ) : Type 0 where

@@ -1,4 +1,5 @@
-// What the test programs share: bytes in hexadecimal, lines and fields, counts, and what they write.
+// What the test programs share: bytes in hexadecimal, lines and fields, frames and events as bytes, counts, and what they write.
+pub mod frames;
 pub mod hex;
 pub mod lines;
 pub mod pattern;

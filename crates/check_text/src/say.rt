@@ -1,4 +1,6 @@
 // The lines that the program writes.
+use crate::lines::after;
+use crate::lines::part;
 use crate::tally::Tally;
 ghost use mathlib.Core.Path.{_≡_};
 ghost use lib.IntN.{natAbs};
@@ -9,6 +11,13 @@ pub fn text(s: &[u8]) {
 
 pub fn number(n: u64) {
     io::print_decimal(libc::STDOUT_FILENO, n);
+}
+
+// A number of 32 bits as one of 64.
+pub fn wide(n: i32) -> i64
+    ensures { λ r. ⌜ r ≡ n ⌝ }
+{
+    n as i64
 }
 
 // How far a number is from zero.
@@ -29,19 +38,32 @@ pub fn signed(n: i64) {
     number(magnitude(n));
 }
 
-// A count and what is counted.
-fn count(n: u64, what: &[u8]) {
-    number(n);
-    text(what);
+// A text with a number in the place of each `#`, as long as there are numbers.
+pub fn fill(template: &[u8], numbers: &[u64]) {
+    let mut at = 0;
+    let mut used = 0;
+    while at < template.len() {
+        text(part(template, at, b'#'));
+        at = after(template, at, b'#');
+        if used < numbers.len() {
+            number(numbers[used]);
+            used += 1;
+        }
+    }
 }
 
 // The counts of a set or of all.
 pub fn counts(t: Tally) {
-    count(t.lines, b" lines, ");
-    count(t.blocks, b" blocks, ");
-    count(t.enciphered_wrong, b" enciphered wrong, ");
-    count(t.deciphered_wrong, b" deciphered wrong, ");
-    count(t.malformed, b" malformed\n");
+    fill(
+        b"# lines, # blocks, # enciphered wrong, # deciphered wrong, # malformed\n",
+        &[
+            t.lines,
+            t.blocks,
+            t.enciphered_wrong,
+            t.deciphered_wrong,
+            t.malformed,
+        ],
+    );
 }
 
 // What follows the name of a set: the byte order that it is printed in, and its counts.
@@ -56,11 +78,15 @@ pub fn set(reversed: bool, t: Tally) {
 
 // How many keys of each length there were.
 pub fn keys(t: Tally) {
-    text(b"keys of 16 bytes: ");
-    count(t.keys16, b", of 17: ");
-    count(t.keys17, b", of 19: ");
-    count(t.keys19, b", of 24: ");
-    count(t.keys24, b", of 32: ");
-    count(t.keys32, b", of other lengths: ");
-    count(t.keys_other, b"\n");
+    fill(
+        b"keys of 16 bytes: #, of 17: #, of 19: #, of 24: #, of 32: #, of other lengths: #\n",
+        &[
+            t.keys16,
+            t.keys17,
+            t.keys19,
+            t.keys24,
+            t.keys32,
+            t.keys_other,
+        ],
+    );
 }

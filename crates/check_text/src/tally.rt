@@ -4,7 +4,7 @@ use std::num::wrapping_add_u64;
 pub struct Tally {
     pub lines: u64,
     pub blocks: u64,
-    // blocks whose enciphering or deciphering was refused or gave other bytes
+    // comparisons where the operation refused or gave other bytes
     pub enciphered_wrong: u64,
     pub deciphered_wrong: u64,
     // lines that are no vector
@@ -60,9 +60,9 @@ impl Tally {
         self
     }
 
-    // A block, with 1 for each way that went wrong.
-    pub fn with_block(mut self, enciphered: u64, deciphered: u64) -> Tally {
-        self.blocks = one_more(self.blocks);
+    // So many blocks, and how many of the comparisons went wrong each way.
+    pub fn with_blocks(mut self, blocks: u64, enciphered: u64, deciphered: u64) -> Tally {
+        self.blocks = wrapping_add_u64(self.blocks, blocks);
         self.enciphered_wrong = wrapping_add_u64(self.enciphered_wrong, enciphered);
         self.deciphered_wrong = wrapping_add_u64(self.deciphered_wrong, deciphered);
         self

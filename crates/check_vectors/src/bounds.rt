@@ -13,9 +13,7 @@ fn say_key(before: &[u8], size: usize)
     let zeros = [0u8; 40];
     let made = serpent::Serpent::new_from_slice(&zeros[0..size]);
     say::text(before);
-    say::number(size as u64);
-    say::text(b" bytes: ");
-    say::number(made.number as u64);
+    say::fill(b"# bytes: #", &[size as u64, made.number as u64]);
 }
 
 pub fn keys() {
@@ -34,20 +32,15 @@ fn say_call(deciphering: bool, key: usize, block: usize, room: usize) {
     } else {
         say::text(b"encrypt_block");
     }
-    say::text(b", key of ");
-    say::number(key as u64);
-    say::text(b", block of ");
-    say::number(block as u64);
-    say::text(b", room for ");
-    say::number(room as u64);
+    say::fill(
+        b", key of #, block of #, room for #",
+        &[key as u64, block as u64, room as u64],
+    );
 }
 
 // The number, and whether the buffer from `from` on is as it was.
 fn say_end(number: u32, from: usize, kept: bool) {
-    say::text(b": number ");
-    say::number(number as u64);
-    say::text(b", bytes ");
-    say::number(from as u64);
+    say::fill(b": number #, bytes #", &[number as u64, from as u64]);
     if kept {
         say::text(b" to 19 kept\n");
     } else {

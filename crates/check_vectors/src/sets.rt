@@ -34,7 +34,7 @@ fn check_block(key: &[u8], plain: &[u8], cipher: &[u8], at: usize, t: Tally) -> 
     let c = &cipher[at..e];
     let enciphered = wrong(false, key, p, c);
     let deciphered = wrong(true, key, c, p);
-    t.with_block(enciphered, deciphered)
+    t.with_blocks(1, enciphered, deciphered)
 }
 
 // Each block of two texts by itself. No key, no text, texts of two lengths, or not of whole blocks:
