@@ -80,22 +80,40 @@ fn say_places(before: &[u8], after: &[u8]) {
     }
 }
 
-fn places(frame: &[u8], changed: &[u8]) {
+// A window of two from a place of the changed frame, beside the texts of the frame before.
+fn say_window(changed: &[u8], place: usize, before: &[u8])
+    requires { ⌜ place ≤ 6 ⌝ }
+{
+    let mut out = [0u8; 32];
+    let number = read_window(&KEY, changed, place, 2, &mut out);
+    say::fill(
+        b"  window of 2 from place #: number #, ",
+        &[place as u64, number as u64],
+    );
+    say_same(is_part(&out, before, place * 16));
+}
+
+// Whether `s` has the bytes of `part` from a place on.
+fn is_part(part: &[u8], s: &[u8], at: usize) -> bool {
+    if at > s.len() {
+        return false;
+    }
+    if part.len() > s.len() - at {
+        return false;
+    }
+    let e = at + part.len();
+    check::same(part, &s[at..e])
+}
+
+// Each place, and windows from two places on, and from one on, after the changed block.
+fn windows(frame: &[u8], changed: &[u8]) {
     let mut before = [0u8; 96];
     let mut after = [0u8; 96];
     read_window(&KEY, frame, 0, 6, &mut before);
     read_window(&KEY, changed, 0, 6, &mut after);
     say_places(&before, &after);
-}
-
-// A window of two from a place of either frame.
-fn windows(frame: &[u8], changed: &[u8], place: usize) {
-    let mut before = [0u8; 32];
-    let mut after = [1u8; 32];
-    let a = read_window(&KEY, frame, place, 2, &mut before);
-    let b = read_window(&KEY, changed, place, 2, &mut after);
-    say::fill(b"  window of 2 from place #: ", &[place as u64]);
-    say_same(a == b && check::same(&before, &after));
+    say_window(changed, 4, &before);
+    say_window(changed, 3, &before);
 }
 
 // Whether two searches answered the same.
@@ -128,12 +146,10 @@ fn searches(frame: &[u8], changed: &[u8], place: usize) {
     say_same(same_found(a, b));
 }
 
-// Each place, and a window and a search that begin two places after the changed block, and before.
+// By windows, then by searches from two places on, and from one on, after the changed block.
 pub fn all(frame: &[u8], changed: &[u8]) {
     say::text(b"beside the frame before\n");
-    places(frame, changed);
-    windows(frame, changed, 4);
+    windows(frame, changed);
     searches(frame, changed, 4);
-    windows(frame, changed, 3);
     searches(frame, changed, 3);
 }

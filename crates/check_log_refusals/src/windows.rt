@@ -1,5 +1,4 @@
 // Windows of frames, whose cipher blocks are zeros, under keys of zeros.
-use crate::ends::say_end;
 use check_text::frames::put_header;
 use check_text::pattern::FILL;
 use check_text::say;
@@ -23,10 +22,10 @@ fn call_on(k: usize, frame: &[u8], place: usize, count: usize, room: usize, out:
         &[place as u64, count as u64, room as u64],
     );
     if count > 256 {
-        say_end(number, 0, out);
+        say::end(number, 0, out);
         return;
     }
-    say_end(number, count * 16, out);
+    say::end(number, count * 16, out);
 }
 
 // The first bytes of a frame, with the length field and the version given.

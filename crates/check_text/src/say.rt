@@ -1,6 +1,7 @@
 // The lines that the program writes.
 use crate::lines::after;
 use crate::lines::part;
+use crate::pattern::is_kept;
 use crate::tally::Tally;
 ghost use mathlib.Core.Path.{_≡_};
 ghost use lib.IntN.{natAbs};
@@ -49,6 +50,26 @@ pub fn fill(template: &[u8], numbers: &[u64]) {
             number(numbers[used]);
             used += 1;
         }
+    }
+}
+
+// The number of a call that writes into a buffer, and whether the buffer is as it was: all of it, or
+// past the answer.
+pub fn end(number: u32, answer: usize, out: &[u8]) {
+    if number == 0 {
+        fill(b": number 0, all bytes from # on ", &[answer as u64]);
+        kept(is_kept(out, answer));
+        return;
+    }
+    fill(b": number #, all bytes ", &[number as u64]);
+    kept(is_kept(out, 0));
+}
+
+fn kept(is: bool) {
+    if is {
+        text(b"kept\n");
+    } else {
+        text(b"CHANGED\n");
     }
 }
 

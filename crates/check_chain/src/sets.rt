@@ -7,7 +7,7 @@ use check_text::say;
 use check_text::tally::Tally;
 
 // The operation that is asked for.
-fn run(deciphering: bool, key: &[u8], text: &[u8], start: &[u8], out: &mut [u8]) -> u32 {
+pub fn run(deciphering: bool, key: &[u8], text: &[u8], start: &[u8], out: &mut [u8]) -> u32 {
     if deciphering {
         return chain::decrypt_chain(key, text, start, out);
     }

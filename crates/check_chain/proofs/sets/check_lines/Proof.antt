@@ -3,8 +3,8 @@ use Prim.Native.Nat.{_≤_, _-_}
 use borrow.Author.Needs.{needs}
 use native.Mathlib.Omega.{arith}
 use lib.ListN.{length}
-use Rattle.check_log.proofs.sets.check_lines.Statement.{statement}
-use Rattle.check_log.proofs.sets.check_lines.Tie as tie
+use Rattle.check_chain.proofs.sets.check_lines.Statement.{statement}
+use Rattle.check_chain.proofs.sets.check_lines.Tie as tie
 
 abbrev Inv-loop : tie.InvT-loop
 Inv-loop s t₀ at₀ t at = at ≤ length s

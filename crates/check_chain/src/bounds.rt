@@ -1,17 +1,9 @@
-// The chain both ways, on keys, texts and start blocks of zeros.
-use crate::ends::say_end;
+// Each refusal of the chain at its boundary, and several at once. Keys, texts and start blocks are zeros.
+use crate::sets::run;
 use check_text::pattern::FILL;
 use check_text::say;
 ghost use Prim.Native.Nat.{_≤_};
 ghost use lib.ListN.{length};
-
-// The operation that is asked for.
-fn run(deciphering: bool, key: &[u8], text: &[u8], start: &[u8], out: &mut [u8]) -> u32 {
-    if deciphering {
-        return chain::decrypt_chain(key, text, start, out);
-    }
-    chain::encrypt_chain(key, text, start, out)
-}
 
 fn say_call(deciphering: bool, key: usize, text: usize, start: usize, room: usize) {
     if deciphering {
@@ -40,7 +32,7 @@ fn call_on(deciphering: bool, k: usize, t: usize, s: usize, room: usize, out: &m
         &start[0..s],
         &mut out[0..room],
     );
-    say_end(n, t, out);
+    say::end(n, t, out);
 }
 
 fn call(deciphering: bool, k: usize, t: usize, s: usize, room: usize)
