@@ -1,6 +1,8 @@
 // Lines of a file, and the fields of a line.
+ghost use mathlib.Core.Path.{_≡_};
 ghost use Prim.Native.Nat.{_≤_, _<_};
-ghost use lib.ListN.{length};
+ghost use lib.Dec.{eqb};
+ghost use lib.ListN.{length, getD};
 ghost use Rattle.io.specs.Counts.{Counts};
 
 // The place of the first byte from `from` on that is `b`; the end where there is none.
@@ -45,7 +47,9 @@ pub fn after(s: &[u8], from: usize, b: u8) -> usize
 }
 
 // A line that begins with a number sign.
-pub fn is_comment(line: &[u8]) -> bool {
+pub fn is_comment(line: &[u8]) -> bool
+    ensures { λ r. ⌜ r ≡ eqb (getD (now (line .entry)) 0 0) 35 ⌝ }
+{
     if line.len() == 0 {
         return false;
     }
