@@ -1,7 +1,10 @@
 // Keys, blocks and buffers at the bounds of what is taken. Keys and blocks are zeros.
-use crate::say;
 use crate::sets::run;
+use check_text::pattern::FILL;
+use check_text::pattern::is_kept;
+use check_text::say;
 ghost use Prim.Native.Nat.{_≤_};
+ghost use lib.ListN.{length};
 
 // What new_from_slice answers to a key of `size` bytes.
 fn say_key(before: &[u8], size: usize)
@@ -10,9 +13,7 @@ fn say_key(before: &[u8], size: usize)
     let zeros = [0u8; 40];
     let made = serpent::Serpent::new_from_slice(&zeros[0..size]);
     say::text(before);
-    say::number(size as u64);
-    say::text(b" bytes: ");
-    say::number(made.number as u64);
+    say::fill(b"# bytes: #", &[size as u64, made.number as u64]);
 }
 
 pub fn keys() {
@@ -25,37 +26,21 @@ pub fn keys() {
     say::text(b"\n");
 }
 
-// What a buffer holds before a call.
-const PATTERN: [u8; 20] = [165; 20];
-
-// Whether the bytes from `from` on are still those of the pattern.
-fn is_kept(out: [u8; 20], from: usize) -> bool
-    requires { ⌜ from ≤ 20 ⌝ }
-{
-    let was = PATTERN;
-    check::same(&was[from..], &out[from..])
-}
-
 fn say_call(deciphering: bool, key: usize, block: usize, room: usize) {
     if deciphering {
         say::text(b"decrypt_block");
     } else {
         say::text(b"encrypt_block");
     }
-    say::text(b", key of ");
-    say::number(key as u64);
-    say::text(b", block of ");
-    say::number(block as u64);
-    say::text(b", room for ");
-    say::number(room as u64);
+    say::fill(
+        b", key of #, block of #, room for #",
+        &[key as u64, block as u64, room as u64],
+    );
 }
 
 // The number, and whether the buffer from `from` on is as it was.
 fn say_end(number: u32, from: usize, kept: bool) {
-    say::text(b": number ");
-    say::number(number as u64);
-    say::text(b", bytes ");
-    say::number(from as u64);
+    say::fill(b": number #, bytes #", &[number as u64, from as u64]);
     if kept {
         say::text(b" to 19 kept\n");
     } else {
@@ -64,12 +49,11 @@ fn say_end(number: u32, from: usize, kept: bool) {
 }
 
 // One call on a part of the buffer, and what became of the whole.
-fn call(deciphering: bool, k: usize, b: usize, room: usize)
-    requires { ⌜ (k ≤ 40) × (b ≤ 40) × (room ≤ 20) ⌝ }
+fn call_on(deciphering: bool, k: usize, b: usize, room: usize, out: &mut [u8])
+    requires { ⌜ (k ≤ 40) × (b ≤ 40) × (room ≤ length (now out)) ⌝ }
 {
     let key = [0u8; 40];
     let block = [0u8; 40];
-    let mut out = PATTERN;
     let n = run(deciphering, &key[0..k], &block[0..b], &mut out[0..room]);
     say_call(deciphering, k, b, room);
     if n == 0 {
@@ -77,6 +61,13 @@ fn call(deciphering: bool, k: usize, b: usize, room: usize)
     } else {
         say_end(n, 0, is_kept(out, 0));
     }
+}
+
+fn call(deciphering: bool, k: usize, b: usize, room: usize)
+    requires { ⌜ (k ≤ 40) × (b ≤ 40) × (room ≤ 20) ⌝ }
+{
+    let mut out = [FILL; 20];
+    call_on(deciphering, k, b, room, &mut out);
 }
 
 // Each refusal at its bounds, several faults at once, and calls that are done.

@@ -1,13 +1,11 @@
 // Runs published Serpent vectors through the cipher both ways and compares, then tries the bounds
 // of what the operations take. What it must write is in the file stdout.
 mod bounds;
-mod hex;
-mod say;
 mod sets;
-mod tally;
 
+use check_text::say;
+use check_text::tally::Tally;
 use sets::check_set;
-use tally::Tally;
 
 // The published sets, each in the byte order that it is printed in.
 fn published() -> Tally {

@@ -1,46 +1,10 @@
 // A set of vectors: its file is read, and each line is run through the cipher both ways.
-use crate::hex;
-use crate::say;
-use crate::tally::Tally;
+use check_text::hex::bytes_of;
+use check_text::lines;
+use check_text::say;
+use check_text::tally::Tally;
 ghost use Prim.Native.Nat.{_+_, _≤_};
 ghost use lib.ListN.{length};
-ghost use Rattle.io.specs.Counts.{Counts};
-
-// The place of the first byte from `from` on that is `b`; the end where there is none.
-fn find(s: &[u8], from: usize, b: u8) -> usize
-    requires { ⌜ from ≤ length (now s) ⌝ }
-    ensures { λ r. ⌜ (from ≤ r) × (r ≤ length (now (s .entry))) ⌝ }
-{
-    let mut i = from;
-    while i < s.len() {
-        if s[i] == b {
-            return i;
-        }
-        i += 1;
-    }
-    i
-}
-
-// Where the field after the one at `from` begins: past the next space, or at the end.
-fn next_field(s: &[u8], from: usize) -> usize
-    requires { ⌜ from ≤ length (now s) ⌝ }
-    ensures { λ r. ⌜ r ≤ length (now (s .entry)) ⌝ }
-{
-    let e = find(s, from, b' ');
-    if e < s.len() {
-        return e + 1;
-    }
-    e
-}
-
-// The bytes of the field that begins at `from`, as `bytes_of` has them.
-fn field(s: &[u8], from: usize, reversed: bool, out: &mut [u8]) -> usize
-    requires { ⌜ from ≤ length (now s) ⌝ }
-    ensures { λ r. ⌜ Counts r (now (out .exit)) ⌝ }
-{
-    let e = find(s, from, b' ');
-    hex::bytes_of(&s[from..e], reversed, out)
-}
 
 // The operation that is asked for.
 pub fn run(deciphering: bool, key: &[u8], block: &[u8], out: &mut [u8]) -> u32 {
@@ -70,7 +34,7 @@ fn check_block(key: &[u8], plain: &[u8], cipher: &[u8], at: usize, t: Tally) -> 
     let c = &cipher[at..e];
     let enciphered = wrong(false, key, p, c);
     let deciphered = wrong(true, key, c, p);
-    t.with_block(enciphered, deciphered)
+    t.with_blocks(1, enciphered, deciphered)
 }
 
 // Each block of two texts by itself. No key, no text, texts of two lengths, or not of whole blocks:
@@ -101,21 +65,19 @@ fn check_line(line: &[u8], reversed: bool, t: Tally) -> Tally {
     let mut key = [0u8; 64];
     let mut plain = [0u8; 4096];
     let mut cipher = [0u8; 4096];
-    let p = next_field(line, 0);
-    let c = next_field(line, p);
-    let k = field(line, 0, reversed, &mut key);
-    let n = field(line, p, reversed, &mut plain);
+    let p = lines::after(line, 0, b' ');
+    let c = lines::after(line, p, b' ');
+    let k = bytes_of(lines::part(line, 0, b' '), reversed, &mut key);
+    let n = bytes_of(lines::part(line, p, b' '), reversed, &mut plain);
     // all that is left, so that a fourth field makes the line malformed
-    let m = hex::bytes_of(&line[c..], reversed, &mut cipher);
+    let m = bytes_of(&line[c..], reversed, &mut cipher);
     check_texts(&key[..k], &plain[..n], &cipher[..m], t)
 }
 
 // Any line but a comment is a vector.
 fn check_any(line: &[u8], reversed: bool, t: Tally) -> Tally {
-    if 0 < line.len() {
-        if line[0] == b'#' {
-            return t;
-        }
+    if lines::is_comment(line) {
+        return t;
     }
     check_line(line, reversed, t)
 }
@@ -124,36 +86,16 @@ fn check_lines(s: &[u8], reversed: bool) -> Tally {
     let mut t = Tally::new();
     let mut at = 0;
     while at < s.len() {
-        let e = find(s, at, b'\n');
-        t = check_any(&s[at..e], reversed, t);
-        if e >= s.len() {
-            return t;
-        }
-        at = e + 1;
+        t = check_any(lines::part(s, at, b'\n'), reversed, t);
+        at = lines::after(s, at, b'\n');
     }
     t
-}
-
-// How much of a file is in the buffer; nothing where the file is missing, empty or too long.
-fn load(name: &[u8], buf: &mut [u8]) -> usize
-    ensures { λ r. ⌜ Counts r (now (buf .exit)) ⌝ }
-{
-    let fd = os::open_read(name);
-    if fd < 0 {
-        return 0;
-    }
-    let n = io::read_full(fd, buf);
-    libc::close(fd);
-    if n == buf.len() {
-        return 0;
-    }
-    n
 }
 
 // A file that cannot be read has no line.
 fn check_file(name: &[u8], reversed: bool) -> Tally {
     let mut buf = [0u8; 131072];
-    let n = load(name, &mut buf);
+    let n = lines::load(name, &mut buf);
     check_lines(&buf[..n], reversed)
 }
 

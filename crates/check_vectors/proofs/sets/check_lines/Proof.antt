@@ -1,6 +1,7 @@
--- `sets::check_lines` ends: each turn begins past the line before. Assumes nothing.
+-- `sets::check_lines` ends: each turn begins further on. Assumes nothing.
 use Prim.Native.Nat.{_≤_, _-_}
 use borrow.Author.Needs.{needs}
+use native.Mathlib.Omega.{arith}
 use lib.ListN.{length}
 use Rattle.check_vectors.proofs.sets.check_lines.Statement.{statement}
 use Rattle.check_vectors.proofs.sets.check_lines.Tie as tie
@@ -11,7 +12,10 @@ Inv-loop s reversed t₀ at₀ t at = at ≤ length s
 abbrev μ-loop : tie.MeasureT-loop
 μ-loop s reversed t₀ at₀ t at = length s - at
 
+loop-less : tie.Need-loop-less Inv-loop μ-loop
+loop-less c = omega (arith, c .after .ensures .1 (c .before .before .before .loop-test .taken))
+
 pub check-lines-spec : {M : Type 1} → statement M
 check-lines-spec =
     tie.close
-    (tie.spec Inv-loop μ-loop (search needs) (search needs) (search needs) (search needs) (search needs) (search needs) (search needs) (search needs) (search needs) (search needs) (search needs) (search needs))
+    (tie.spec Inv-loop μ-loop (search needs) (search needs) (search needs) (search needs) (search needs) loop-less (search needs) (search needs))

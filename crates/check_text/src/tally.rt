@@ -1,10 +1,12 @@
 // What is counted over the lines of a set. No count comes near 2^64, where it would wrap.
 use std::num::wrapping_add_u64;
+ghost use mathlib.Core.Path.{_≡_};
+ghost use Rattle.check_text.specs.Counts.{more};
 
 pub struct Tally {
     pub lines: u64,
     pub blocks: u64,
-    // blocks whose enciphering or deciphering was refused or gave other bytes
+    // comparisons where the operation refused or gave other bytes
     pub enciphered_wrong: u64,
     pub deciphered_wrong: u64,
     // lines that are no vector
@@ -18,12 +20,16 @@ pub struct Tally {
     pub keys_other: u64,
 }
 
-fn one_more(n: u64) -> u64 {
+fn one_more(n: u64) -> u64
+    ensures { λ r. ⌜ r ≡ more n 1 ⌝ }
+{
     wrapping_add_u64(n, 1)
 }
 
 impl Tally {
-    pub fn new() -> Tally {
+    pub fn new() -> Tally
+        ensures { λ r. ⌜ (r .lines ≡ 0) × (r .blocks ≡ 0) × (r .malformed ≡ 0) × (r .«enciphered_wrong» ≡ 0) × (r .«deciphered_wrong» ≡ 0) ⌝ }
+    {
         Tally {
             lines: 0,
             blocks: 0,
@@ -40,14 +46,18 @@ impl Tally {
     }
 
     // A line that is no vector.
-    pub fn with_malformed(mut self) -> Tally {
+    pub fn with_malformed(mut self) -> Tally
+        ensures { λ r. ⌜ (r .lines ≡ more (self .lines) 1) × (r .malformed ≡ more (self .malformed) 1) ⌝ }
+    {
         self.lines = one_more(self.lines);
         self.malformed = one_more(self.malformed);
         self
     }
 
     // A line with a key of `size` bytes.
-    pub fn with_vector(mut self, size: usize) -> Tally {
+    pub fn with_vector(mut self, size: usize) -> Tally
+        ensures { λ r. ⌜ r .lines ≡ more (self .lines) 1 ⌝ }
+    {
         self.lines = one_more(self.lines);
         match size {
             16 => self.keys16 = one_more(self.keys16),
@@ -60,9 +70,13 @@ impl Tally {
         self
     }
 
-    // A block, with 1 for each way that went wrong.
-    pub fn with_block(mut self, enciphered: u64, deciphered: u64) -> Tally {
-        self.blocks = one_more(self.blocks);
+    // So many blocks, and how many of the comparisons went wrong each way.
+    pub fn with_blocks(mut self, blocks: u64, enciphered: u64, deciphered: u64) -> Tally
+        ensures blocks { λ r. ⌜ r .blocks ≡ more (self .blocks) blocks ⌝ }
+        ensures enciphered { λ r. ⌜ r .«enciphered_wrong» ≡ more (self .«enciphered_wrong») enciphered ⌝ }
+        ensures deciphered { λ r. ⌜ r .«deciphered_wrong» ≡ more (self .«deciphered_wrong») deciphered ⌝ }
+    {
+        self.blocks = wrapping_add_u64(self.blocks, blocks);
         self.enciphered_wrong = wrapping_add_u64(self.enciphered_wrong, enciphered);
         self.deciphered_wrong = wrapping_add_u64(self.deciphered_wrong, deciphered);
         self

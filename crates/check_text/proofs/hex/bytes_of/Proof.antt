@@ -5,8 +5,8 @@ use borrow.Author.Needs.{needs}
 use native.Mathlib.Omega.{arith}
 use lib.ListN.{length}
 use Rattle.io.proofs.Counting.{counts}
-use Rattle.check_vectors.proofs.hex.bytes_of.Statement.{statement}
-use Rattle.check_vectors.proofs.hex.bytes_of.Tie as tie
+use Rattle.check_text.proofs.hex.bytes_of.Statement.{statement}
+use Rattle.check_text.proofs.hex.bytes_of.Tie as tie
 
 abbrev Inv-loop : tie.InvT-loop
 Inv-loop hex reversed out₀ n i₀ out i = (i ≤ n) × (n ≤ length out) × (2 * n ≤ length hex) × (length out ≡ length out₀)

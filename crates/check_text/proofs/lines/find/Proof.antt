@@ -1,9 +1,9 @@
--- `sets::find` stays within the text. Assumes nothing.
+-- `lines::find` stays within the text. Assumes nothing.
 use Prim.Native.Nat.{_≤_, _-_}
 use borrow.Author.Needs.{needs}
 use lib.ListN.{length}
-use Rattle.check_vectors.proofs.sets.find.Statement.{statement}
-use Rattle.check_vectors.proofs.sets.find.Tie as tie
+use Rattle.check_text.proofs.lines.find.Statement.{statement}
+use Rattle.check_text.proofs.lines.find.Tie as tie
 
 abbrev Inv-loop : tie.InvT-loop
 Inv-loop s from b i₀ i = (from ≤ i) × (i ≤ length s)
