@@ -24,11 +24,22 @@ fn reading_9(field: u32, size: usize)
     );
 }
 
+// Every field of an event.
+fn say_event(what: &[u8], block: [u8; 16]) {
+    let read = read_event(&block);
+    say::text(what);
+    say::fill(b"number #, ", &[read.number as u64]);
+    show::event(read.event);
+}
+
+// The event of reading 10, and two whose fields are the least or the greatest.
 fn reading_10() {
     let block = [0, 0, 14, 16, 4, 32, 0, 2, 255, 255, 255, 255, 0, 0, 0, 7];
-    let read = read_event(&block);
-    say::fill(b"reading 10: number #, ", &[read.number as u64]);
-    show::event(read.event);
+    let early = event_block(0, 56, 31, 65535, 0x8000_0000, 0xffff_ffff);
+    let late = event_block(0xffff_ffff, 208, 96, 256, 0x7fff_ffff, 0);
+    say_event(b"reading 10: ", block);
+    say_event(b"utc below zero: ", early);
+    say_event(b"offset below zero: ", late);
 }
 
 // An event of all zeros but for the offset byte and the kind.
