@@ -70,6 +70,12 @@ module _ (key s t : List ℕ) (blocks : List (List ℕ)) where
     pub window : (d count : ℕ) (out : List ℕ) → windowOut key (frameOf t blocks) (1 + d) count out ≡ windowOut key (frameOf s blocks) (1 + d) count out
     pub search : (d : ℕ) → searchAnswer key (frameOf t blocks) (1 + d) ≡ searchAnswer key (frameOf s blocks) (1 + d)
 
+-- ---- the claim
+pub record DamageStays : Type 0 where
+  pub run-replaced : (key start : List ℕ) (pre old new rest : List (List ℕ)) → Replaced start pre old new rest → Damaged key start pre old new rest
+  pub one-differs : Differs
+  pub start-replaced : (key s t : List ℕ) (blocks : List (List ℕ)) → Block s → Block t → Blocks blocks → length blocks ≤ blockLimit → Restarted key s t blocks
+
 -- ---- the real cipher is the instance
 inverse : (key : List ℕ) → Inverse Block Block (encryptBytes (schedule key)) (decryptBytes (schedule key))
 inverse key = block-inverse (schedule key) (schedule-sized key .small)
@@ -113,7 +119,7 @@ module _ (key start : List ℕ) (pre old new rest : List (List ℕ)) (h : Replac
       let w = count-of start (pre ++ (old ++ rest)) (h .starts) was-blocks ∙ length-append pre (old ++ rest) in
       omega (arith, i, w, length-append new rest, length-append old rest)
 
-  pub damaged : Damaged key start pre old new rest
+  damaged : Damaged key start pre old new rest
   damaged = record {
     opens = (was-opens, is-opens);
     before =
@@ -129,7 +135,7 @@ module _ (key start : List ℕ) (pre old new rest : List (List ℕ)) (h : Replac
     search = λ d. same.search-answer key _ _ _ _ (length old) (length new) (omega arith) (omega arith) is-opens was-opens (as-far d) (from-there d);
   }
 
-pub differs : Differs
+differs : Differs
 unfolding Blocks
 differs key start pre old new rest hs hp ho hn hr ne e =
     let D = decryptBytes (schedule key) in
@@ -138,7 +144,7 @@ differs key start pre old new rest hs hp ho hn hr ne e =
     chain.differs (inverse key) start pre old new rest hs hp ho hn ne
     (sym (ap (λ (ts : List (List ℕ)). getD ts (length pre) []) now) ∙ e ∙ ap (λ (ts : List (List ℕ)). getD ts (length pre) []) then)
 
-pub restarted : (key s t : List ℕ) (blocks : List (List ℕ)) → Block s → Block t → Blocks blocks → length blocks ≤ blockLimit → Restarted key s t blocks
+restarted : (key s t : List ℕ) (blocks : List (List ℕ)) → Block s → Block t → Blocks blocks → length blocks ≤ blockLimit → Restarted key s t blocks
 restarted key s t blocks hs ht hb few = record {
   first = λ n. rw (now, then) (chain.first-restarted (inverse key) s t blocks hs hb n);
   later = later;
@@ -167,3 +173,6 @@ restarted key s t blocks hs ht hb few = record {
 
     from-there : (d : ℕ) → drop (1 + d) (frameTexts key (frameOf t blocks)) ≡ drop (1 + d) (frameTexts key (frameOf s blocks))
     from-there d = sym (drop-drop d 1 _) ∙ ap (drop d) later ∙ drop-drop d 1 _
+
+pub damage-stays : DamageStays
+damage-stays = record { run-replaced = damaged; one-differs = differs; start-replaced = restarted }
