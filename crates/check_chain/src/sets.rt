@@ -5,9 +5,16 @@ use check_text::pattern::FILL;
 use check_text::pattern::is_kept;
 use check_text::say;
 use check_text::tally::Tally;
+ghost use mathlib.Core.Path.{_≡_};
+ghost use mathlib.Core.Bool.{cond};
+ghost use lib.ListN.{length};
+ghost use Rattle.chain.specs.Slices.{chainNumber, encryptedChain, decryptedChain};
 
 // The operation that is asked for.
-pub fn run(deciphering: bool, key: &[u8], text: &[u8], start: &[u8], out: &mut [u8]) -> u32 {
+pub fn run(deciphering: bool, key: &[u8], text: &[u8], start: &[u8], out: &mut [u8]) -> u32
+    ensures number { λ r. ⌜ r ≡ chainNumber (length (now (key .entry))) (length (now (text .entry))) (length (now (start .entry))) (length (now (out .entry))) ⌝ }
+    ensures written { λ _. ⌜ now (out .exit) ≡ cond deciphering (decryptedChain (now (key .entry)) (now (text .entry)) (now (start .entry)) (now (out .entry))) (encryptedChain (now (key .entry)) (now (text .entry)) (now (start .entry)) (now (out .entry))) ⌝ }
+{
     if deciphering {
         return chain::decrypt_chain(key, text, start, out);
     }

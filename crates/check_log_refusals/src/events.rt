@@ -8,7 +8,7 @@ use words::blocks::put_block;
 ghost use Prim.Native.Nat.{_≤_};
 
 // Whether every field is zero, and the class idle.
-pub fn is_none(e: Event) -> bool {
+fn is_none(e: Event) -> bool {
     let class = e.class;
     if e.wall.0 != 0 || e.utc.0 != 0 || e.offset != 0 {
         return false;

@@ -1,7 +1,7 @@
 // What is counted over the lines of a set. No count comes near 2^64, where it would wrap.
 use std::num::wrapping_add_u64;
 ghost use mathlib.Core.Path.{_≡_};
-ghost use Rattle.check_text.specs.Counts.{more};
+ghost use Rattle.check_text.specs.Counts.{more, sum};
 
 pub struct Tally {
     pub lines: u64,
@@ -82,7 +82,9 @@ impl Tally {
         self
     }
 
-    pub fn plus(self, t: Tally) -> Tally {
+    pub fn plus(self, t: Tally) -> Tally
+        ensures { λ r. ⌜ r ≡ sum self t ⌝ }
+    {
         Tally {
             lines: wrapping_add_u64(self.lines, t.lines),
             blocks: wrapping_add_u64(self.blocks, t.blocks),

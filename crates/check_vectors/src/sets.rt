@@ -3,11 +3,17 @@ use check_text::hex::bytes_of;
 use check_text::lines;
 use check_text::say;
 use check_text::tally::Tally;
+ghost use mathlib.Core.Path.{_≡_};
+ghost use mathlib.Core.Bool.{cond};
 ghost use Prim.Native.Nat.{_+_, _≤_};
 ghost use lib.ListN.{length};
+ghost use Rattle.serpent.specs.Slices.{blockNumber, encryptedOut, decryptedOut};
 
 // The operation that is asked for.
-pub fn run(deciphering: bool, key: &[u8], block: &[u8], out: &mut [u8]) -> u32 {
+pub fn run(deciphering: bool, key: &[u8], block: &[u8], out: &mut [u8]) -> u32
+    ensures number { λ r. ⌜ r ≡ blockNumber (length (now (key .entry))) (length (now (block .entry))) (length (now (out .entry))) ⌝ }
+    ensures written { λ _. ⌜ now (out .exit) ≡ cond deciphering (decryptedOut (now (key .entry)) (now (block .entry)) (now (out .entry))) (encryptedOut (now (key .entry)) (now (block .entry)) (now (out .entry))) ⌝ }
+{
     if deciphering {
         return serpent::slices::decrypt_block(key, block, out);
     }
