@@ -73,7 +73,52 @@ fn faults(deciphering: bool) {
     call(deciphering, 16, 4096, 16, 0);
 }
 
+// The same under round keys of zeros: the operation that is asked for.
+fn run_blocks(deciphering: bool, text: &[u8], out: &mut [u8]) -> u32 {
+    let round_keys = [0u32; 132];
+    let start = [0u8; 16];
+    if deciphering {
+        return chain::decrypt_blocks(&round_keys, text, start, out);
+    }
+    chain::encrypt_blocks(&round_keys, text, start, out)
+}
+
+fn call_blocks_on(deciphering: bool, t: usize, room: usize, out: &mut [u8])
+    requires { ⌜ (t ≤ 4128) × (room ≤ length (now out)) ⌝ }
+{
+    let text = [0u8; 4128];
+    if deciphering {
+        say::text(b"decrypt_blocks");
+    } else {
+        say::text(b"encrypt_blocks");
+    }
+    say::fill(b", text of #, room for #", &[t as u64, room as u64]);
+    let n = run_blocks(deciphering, &text[0..t], &mut out[0..room]);
+    say::end(n, t, out);
+}
+
+fn call_blocks(deciphering: bool, t: usize, room: usize)
+    requires { ⌜ (t ≤ 4128) × (room ≤ 4128) ⌝ }
+{
+    let mut out = [FILL; 4128];
+    call_blocks_on(deciphering, t, room, &mut out);
+}
+
+// Each number at its boundary, both at once, and more blocks than a key's chain may have.
+fn under_keys(deciphering: bool) {
+    call_blocks(deciphering, 0, 0);
+    call_blocks(deciphering, 15, 32);
+    call_blocks(deciphering, 16, 32);
+    call_blocks(deciphering, 17, 32);
+    call_blocks(deciphering, 16, 16);
+    call_blocks(deciphering, 16, 15);
+    call_blocks(deciphering, 32, 31);
+    call_blocks(deciphering, 17, 0);
+    call_blocks(deciphering, 4112, 4128);
+}
+
 pub fn all(deciphering: bool) {
     bounds(deciphering);
     faults(deciphering);
+    under_keys(deciphering);
 }
