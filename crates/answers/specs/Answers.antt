@@ -2,7 +2,7 @@
 use Prim.Native.Nat.{ℕ}
 use mathlib.Core.Bool.{Bool, cond}
 use mathlib.Core.List.{List, [], _∷_, _++_}
-use lib.Dec.{eqb}
+use lib.Dec.{eqb, ltb}
 use lib.ListN.{length, drop}
 
 -- a test: its number where it holds, and 0 where it does not
@@ -26,3 +26,7 @@ front answer out = answer ++ drop (length answer) out
 -- what an operation leaves in its output buffer: its answer in front, or, where it refuses, every byte as it was
 unfoldable pub left : ℕ → List ℕ → List ℕ → List ℕ
 left number answer out = onDone number (front answer out) out
+
+-- the test of a buffer for an answer, by the bytes that they have: 5 where the buffer is shorter
+abbrev pub roomNumber : ℕ → ℕ → ℕ
+roomNumber out answer = 5 when ltb out answer

@@ -1,4 +1,7 @@
-// The numbers that an operation hands back, by their names. Anything but DONE is a refusal.
+// The numbers that an operation hands back, by their names, and the answer put into a lent buffer. Anything but DONE is a refusal.
+ghost use mathlib.Core.Path.{_≡_};
+ghost use lib.ListN.{length};
+ghost use Rattle.answers.specs.Answers.{roomNumber, left};
 
 // The work is done.
 pub const DONE: u32 = 0;
@@ -35,3 +38,17 @@ pub const NOT_READABLE: u32 = 10;
 
 // There is no readable event from the place on.
 pub const NO_EVENT: u32 = 11;
+
+// Puts an answer over the first bytes of a lent buffer. The test of its room is the last of an operation.
+pub fn put_answer(answer: &[u8], out: &mut [u8]) -> u32
+    ensures number { λ r. ⌜ r ≡ roomNumber (length (now (out .entry))) (length (now (answer .entry))) ⌝ }
+    ensures written { λ _. ⌜ now (out .exit) ≡ left (roomNumber (length (now (out .entry))) (length (now (answer .entry)))) (now (answer .entry)) (now (out .entry)) ⌝ }
+{
+    if out.len() < answer.len() {
+        return OUT_SHORT;
+    }
+    for i in 0..answer.len() {
+        out[i] = answer[i];
+    }
+    DONE
+}

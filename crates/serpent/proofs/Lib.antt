@@ -3,3 +3,4 @@ pub mod Keys
 pub mod KeyTest
 pub mod Inverse
 pub mod OneBlock
+pub mod Pieces

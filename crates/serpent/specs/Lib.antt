@@ -3,3 +3,4 @@ pub mod Schedule
 pub mod Block
 pub mod Keys
 pub mod Slices
+pub mod Parts

@@ -1,4 +1,5 @@
 // The Serpent block cipher (src/lib.rs of the Rust): key setup, and one block each way.
+pub mod parts;
 pub mod slices;
 
 use answers::DONE;

@@ -1,0 +1,30 @@
+-- `serpent::parts::expand_key` meets its contract: a key that is taken has at most 32 bytes, and its padding is put. Assumes nothing.
+use mathlib.Core.Path.{sym, _∙_}
+use borrow.Author.Needs.{needs}
+use Rattle.answers.proofs.Answers.{left-refused, answered}
+use Rattle.serpent.proofs.KeyTest.{accepted}
+use Rattle.serpent.proofs.Pieces.{bad-key, good-key}
+use Rattle.serpent.proofs.parts.expand_key.Statement.{statement}
+use Rattle.serpent.proofs.parts.expand_key.Tie as tie
+
+returns : tie.Need-returns
+returns c =
+    let number = c .before .key-number .ensures in
+    let n = bad-key _ _ 32 (λ z. c .if1 .taken (number ∙ z)) in
+    (number ∙ sym n, sym (left-refused _ _ (λ z. c .if1 .taken (number ∙ sym n ∙ z))))
+
+expand-key-requires : tie.Need-expand-key-requires
+expand-key-requires c κs = accepted _ (sym (c .before .key-number .ensures) ∙ c .if1 .left) .most
+
+returns-2 : tie.Need-returns-2
+returns-2 c =
+    let put = c .before .before in
+    let made = put .before .before .before in
+    let tested = made .before in
+    answered _ _ (good-key _ _ 32 (sym (tested .before .key-number .ensures) ∙ tested .if1 .left)) (made .expand-key .ensures)
+    (made .expand-key .ok .1 .0 .1) (put .put-answer .ensures .0) (put .put-answer .ensures .1)
+
+pub expand-key-spec : {M : Type 1} → statement M
+expand-key-spec =
+    tie.close
+    (tie.spec (search needs) returns expand-key-requires (search needs) (search needs) (search needs) returns-2)
