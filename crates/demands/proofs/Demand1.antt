@@ -2,17 +2,24 @@
 -- Assumes nothing.
 use mathlib.Core.Path.{_≡_, sym, ap, _∙_}
 use mathlib.Core.Bool.{true, false}
-use mathlib.Core.List.{List, []}
+use mathlib.Core.List.{List, [], _∷_, _++_}
 use mathlib.Core.Logic.{_⊎_, ⊎-elim}
 use Prim.Native.Nat.{ℕ, suc, _+_, _-_, _*_, _/_, _%_, _≤_, _<_}
 use native.Mathlib.Decide.{decLt}
 use native.Mathlib.Omega.{arith}
-use lib.ListN.{length, drop, getD, replicate}
+use lib.ListN.{length, drop, getD, replicate, length-append, length-replicate}
+use lib.Seq.{length-take-le}
 use denote.Ref.{now}
-use Rattle.answers.proofs.Answers.{done, refused, left-refused, left-past}
+use Rattle.answers.proofs.Answers.{done, refused, left-refused, left-past, short, roomy}
+use Rattle.words.specs.Bytes.{bytesOf}
+use Rattle.words.proofs.Lists.{length-listOf}
+use Rattle.bitslice.proofs.Arms.{always}
 use Rattle.serpent.specs.Keys.{leastKey, greatestKey, keyNumber, keyed}
+use Rattle.serpent.specs.Schedule.{padded}
+use Rattle.serpent.specs.Parts.{setupNumber, paddedOut, roundKeysOut, wordsNumber, linearOut, linearInvOut, boxedNumber, boxedOut, boxedInvOut}
 use Rattle.serpent.specs.Slices.{blockNumber, encryptedOut, decryptedOut}
 use Rattle.serpent.proofs.KeyTest.{accepts, refuses}
+use Rattle.serpent.proofs.Pieces as pieces
 use Rattle.serpent.proofs.OneBlock as slices
 use Rattle.chain.specs.Slices.{blockLimit, blocksNumber, chainNumber, encryptedChain, decryptedChain}
 use Rattle.chain.proofs.Numbers as chain
@@ -21,6 +28,7 @@ use Rattle.event.specs.Event.{classNumber, readable, eventOf}
 use Rattle.event.specs.Read.{noEvent, reading}
 use Rattle.event.proofs.Events as event
 use Rattle.frame.specs.Frame.{header, version, lengthField, versionByte, startOf, cipherOf, blockCount, frameNumber, opened, frameBlocks}
+use Rattle.frame.specs.Parts.{startNumber, startOut, framePlace, frameLength}
 use Rattle.frame.specs.Window.{frameTexts, windowNumber, windowOut}
 use Rattle.frame.proofs.Opening as opening
 use Rattle.frame.proofs.Windows as window
@@ -35,6 +43,7 @@ use Rattle.words.proofs.from_be_bytes.Reads as from_be_bytes
 use Rattle.words.proofs.le_byte.Reads as le_byte
 use Rattle.words.proofs.blocks.block_at.Reads as block_at
 use Rattle.words.proofs.blocks.put_block.Reads as put_block
+use Rattle.answers.proofs.put_answer.Reads as put_answer
 use Rattle.bitslice.proofs.linear_transform.Reads as linear_transform
 use Rattle.bitslice.proofs.linear_transform_inv.Reads as linear_transform_inv
 use Rattle.bitslice.proofs.apply_s.Reads as apply_s
@@ -45,6 +54,12 @@ use Rattle.serpent.proofs.Serpent.encrypt_block.Reads as encrypt_block
 use Rattle.serpent.proofs.Serpent.decrypt_block.Reads as decrypt_block
 use Rattle.serpent.proofs.slices.encrypt_block.Reads as encrypt_slice
 use Rattle.serpent.proofs.slices.decrypt_block.Reads as decrypt_slice
+use Rattle.serpent.proofs.parts.expand_key.Reads as parts_expand_key
+use Rattle.serpent.proofs.parts.new_from_slice.Reads as parts_new_from_slice
+use Rattle.serpent.proofs.parts.apply_s.Reads as parts_apply_s
+use Rattle.serpent.proofs.parts.apply_s_inv.Reads as parts_apply_s_inv
+use Rattle.serpent.proofs.parts.linear_transform.Reads as parts_linear_transform
+use Rattle.serpent.proofs.parts.linear_transform_inv.Reads as parts_linear_transform_inv
 use Rattle.chain.proofs.encrypt_link.Reads as encrypt_link
 use Rattle.chain.proofs.decrypt_link.Reads as decrypt_link
 use Rattle.chain.proofs.encrypt_blocks.Reads as encrypt_blocks
@@ -59,6 +74,9 @@ use Rattle.event.proofs.read_event.Reads as read_event
 use Rattle.frame.proofs.frame_number.Reads as frame_number
 use Rattle.frame.proofs.open_frame.Reads as opened_frame
 use Rattle.frame.proofs.frame_blocks.Reads as frame_blocks
+use Rattle.frame.proofs.parts.frame_start.Reads as frame_start
+use Rattle.frame.proofs.parts.frame_place.Reads as frame_place
+use Rattle.frame.proofs.parts.frame_length.Reads as frame_length
 use Rattle.frame.proofs.window.read_window.Reads as read_window
 use Rattle.search.proofs.search.Reads as search
 
@@ -75,6 +93,25 @@ pub record Answers : Type 0 where
   pub key-1 : (key : List ℕ) → NotTaken (length key) → keyed key .number ≡ 1
   pub key-0 : (key : List ℕ) → Taken (length key) → keyed key .number ≡ 0
   pub key-zeros : (key : List ℕ) → (keyed key .number ≡ 0 → ⊥) → keyed key .cipher .«round_keys» ≡ replicate 132 0
+  -- the padded key and the round keys over slices, by the lengths of key, buffer and answer: 1, 5
+  pub setup-1 : (key out size : ℕ) → NotTaken key → setupNumber key out size ≡ 1
+  pub setup-5 : (key out size : ℕ) → Taken key → out < size → setupNumber key out size ≡ 5
+  pub setup-0 : (key out size : ℕ) → Taken key → size ≤ out → setupNumber key out size ≡ 0
+  pub padded-kept : (key out : List ℕ) → (setupNumber (length key) (length out) 32 ≡ 0 → ⊥) → paddedOut key out ≡ out
+  pub round-keys-kept : (key out : List ℕ) → (setupNumber (length key) (length out) 528 ≡ 0 → ⊥) → roundKeysOut key out ≡ out
+  pub setup-past : (key out : List ℕ) → (drop 32 (paddedOut key out) ≡ drop 32 out) × (drop 528 (roundKeysOut key out) ≡ drop 528 out)
+  -- the linear transform over slices, by the lengths of words and buffer: 2, 5
+  pub words-2 : (words out : ℕ) → (words ≡ 16 → ⊥) → wordsNumber words out ≡ 2
+  pub words-5 : (words out : ℕ) → words ≡ 16 → out < 16 → wordsNumber words out ≡ 5
+  pub words-0 : (words out : ℕ) → words ≡ 16 → 16 ≤ out → wordsNumber words out ≡ 0
+  pub words-kept : (words out : List ℕ) → (wordsNumber (length words) (length out) ≡ 0 → ⊥) → (linearOut words out ≡ out) × (linearInvOut words out ≡ out)
+  pub words-past : (words out : List ℕ) → (drop 16 (linearOut words out) ≡ drop 16 out) × (drop 16 (linearInvOut words out) ≡ drop 16 out)
+  -- a box over slices: 2, 5, whatever the index; 8, which stands between them, is never given
+  pub box-2 : (index words out : ℕ) → (words ≡ 16 → ⊥) → boxedNumber index words out ≡ 2
+  pub box-5 : (index words out : ℕ) → words ≡ 16 → out < 16 → boxedNumber index words out ≡ 5
+  pub box-0 : (index words out : ℕ) → words ≡ 16 → 16 ≤ out → boxedNumber index words out ≡ 0
+  pub box-kept : (index : ℕ) (words out : List ℕ) → (boxedNumber index (length words) (length out) ≡ 0 → ⊥) → (boxedOut index words out ≡ out) × (boxedInvOut index words out ≡ out)
+  pub box-past : (index : ℕ) (words out : List ℕ) → (drop 16 (boxedOut index words out) ≡ drop 16 out) × (drop 16 (boxedInvOut index words out) ≡ drop 16 out)
   -- a block over slices, by the lengths of key, block and buffer: 1, 2, 5
   pub block-1 : (key block out : ℕ) → NotTaken key → blockNumber key block out ≡ 1
   pub block-2 : (key block out : ℕ) → Taken key → (block ≡ 16 → ⊥) → blockNumber key block out ≡ 2
@@ -104,6 +141,15 @@ pub record Answers : Type 0 where
   pub frame-0 : (frame : List ℕ) → header ≤ length frame → lengthField frame ≡ length frame - 4 → versionByte frame ≡ version → (length frame - header) % 16 ≡ 0 → blockCount frame ≤ blockLimit → frameNumber frame ≡ 0
   pub frame-refused : (frame : List ℕ) → (frameNumber frame ≡ 0 → ⊥) → (opened frame .start ≡ replicate 16 0) × (frameBlocks frame ≡ [])
   pub frame-done : (frame : List ℕ) → frameNumber frame ≡ 0 → (opened frame .start ≡ startOf frame) × (frameBlocks frame ≡ cipherOf frame)
+  -- the start block put into a buffer: those of opening, 5
+  pub start-frame : (frame : List ℕ) (out n : ℕ) → frameNumber frame ≡ suc n → startNumber frame out ≡ suc n
+  pub start-5 : (frame : List ℕ) (out : ℕ) → frameNumber frame ≡ 0 → out < 16 → startNumber frame out ≡ 5
+  pub start-0 : (frame : List ℕ) (out : ℕ) → frameNumber frame ≡ 0 → 16 ≤ out → startNumber frame out ≡ 0
+  pub start-kept : (frame out : List ℕ) → (startNumber frame (length out) ≡ 0 → ⊥) → startOut frame out ≡ out
+  pub start-past : (frame out : List ℕ) → frameNumber frame ≡ 0 → drop 16 (startOut frame out) ≡ drop 16 out
+  -- the part as place and length: behind the header, or 0 and 0
+  pub part-done : (frame : List ℕ) → frameNumber frame ≡ 0 → (framePlace frame ≡ header) × (frameLength frame ≡ length (cipherOf frame))
+  pub part-refused : (frame : List ℕ) → (frameNumber frame ≡ 0 → ⊥) → (framePlace frame ≡ 0) × (frameLength frame ≡ 0)
   -- a window: 1, those of opening, 9, 5
   pub window-1 : (key : ℕ) (frame : List ℕ) (place count out : ℕ) → NotTaken key → windowNumber key frame place count out ≡ 1
   pub window-frame : (key : ℕ) (frame : List ℕ) (place count out n : ℕ) → Taken key → frameNumber frame ≡ suc n → windowNumber key frame place count out ≡ suc n
@@ -138,6 +184,8 @@ pub record OneAnswer : Type 0 where
   pub le-byte : OneResult le_byte.Post
   pub block-at : OneResult block_at.Post
   pub put-block-out : Determines put_block.Post (λ κs x s. now (s .1 .0))
+  pub put-answer : OneResult put_answer.Post
+  pub put-answer-out : Determines put_answer.Post (λ κs x s. now (s .1 .0))
   pub linear-transform : OneResult linear_transform.Post
   pub linear-transform-inv : OneResult linear_transform_inv.Post
   pub apply-s : OneResult apply_s.Post
@@ -150,6 +198,18 @@ pub record OneAnswer : Type 0 where
   pub encrypt-slice-out : Determines encrypt_slice.Post (λ κs x s. now (s .1 .1 .0))
   pub decrypt-slice : OneResult decrypt_slice.Post
   pub decrypt-slice-out : Determines decrypt_slice.Post (λ κs x s. now (s .1 .1 .0))
+  pub expand-key-slices : OneResult parts_expand_key.Post
+  pub expand-key-slices-out : Determines parts_expand_key.Post (λ κs x s. now (s .1 .0))
+  pub new-from-slice-slices : OneResult parts_new_from_slice.Post
+  pub new-from-slice-slices-out : Determines parts_new_from_slice.Post (λ κs x s. now (s .1 .0))
+  pub apply-s-slices : OneResult parts_apply_s.Post
+  pub apply-s-slices-out : Determines parts_apply_s.Post (λ κs x s. now (s .1 .1 .0))
+  pub apply-s-inv-slices : OneResult parts_apply_s_inv.Post
+  pub apply-s-inv-slices-out : Determines parts_apply_s_inv.Post (λ κs x s. now (s .1 .1 .0))
+  pub linear-transform-slices : OneResult parts_linear_transform.Post
+  pub linear-transform-slices-out : Determines parts_linear_transform.Post (λ κs x s. now (s .1 .0))
+  pub linear-transform-inv-slices : OneResult parts_linear_transform_inv.Post
+  pub linear-transform-inv-slices-out : Determines parts_linear_transform_inv.Post (λ κs x s. now (s .1 .0))
   pub encrypt-link : OneResult encrypt_link.Post
   pub decrypt-link : OneResult decrypt_link.Post
   pub encrypt-blocks : OneResult encrypt_blocks.Post
@@ -168,9 +228,23 @@ pub record OneAnswer : Type 0 where
   pub frame-number : OneResult frame_number.Post
   pub open-frame : OneResult opened_frame.Post
   pub frame-blocks : Determines frame_blocks.Post (λ κs x s. now x)
+  pub frame-start : OneResult frame_start.Post
+  pub frame-start-out : Determines frame_start.Post (λ κs x s. now (s .1 .0))
+  pub frame-place : OneResult frame_place.Post
+  pub frame-length : OneResult frame_length.Post
   pub read-window : OneResult read_window.Post
   pub read-window-out : Determines read_window.Post (λ κs x s. now (s .1 .1 .1 .1 .0))
   pub search : OneResult search.Post
+
+bytes-size : (words : List ℕ) (n : ℕ) → length (bytesOf words n) ≡ n
+unfolding bytesOf
+bytes-size words n = length-listOf _ n
+
+padded-size : (key : List ℕ) → length (padded key) ≡ 32
+unfolding padded
+padded-size key =
+    let long : 32 ≤ length (key ++ (0x01 ∷ replicate 32 0)) = omega (arith, length-append key (0x01 ∷ replicate 32 0), length-replicate {A = ℕ} 32 0) in
+    length-take-le 32 (key ++ (0x01 ∷ replicate 32 0)) long
 
 accepted : {n : ℕ} → Taken n → keyNumber n ≡ 0
 accepted {n} h = accepts n (record { least = h .0; most = h .1 })
@@ -194,6 +268,22 @@ answers = record {
   key-1 = λ key. refuses (length key);
   key-0 = λ key. accepted;
   key-zeros = λ key h. refused _ _ h;
+  setup-1 = λ key out size h. let one = refuses key h in pieces.bad-key key out size (λ z. omega arith) ∙ one;
+  setup-5 = λ key out size k h. pieces.good-key key out size (accepted k) ∙ short out size h;
+  setup-0 = λ key out size k h. pieces.good-key key out size (accepted k) ∙ roomy out size h;
+  padded-kept = λ key out h. left-refused _ _ h;
+  round-keys-kept = λ key out h. left-refused _ _ h;
+  setup-past = λ key out. (left-past _ _ _ 32 (padded-size key), left-past _ _ _ 528 (bytes-size _ 528));
+  words-2 = pieces.bad-words;
+  words-5 = λ words out e h. pieces.good-words words out e ∙ short out 16 h;
+  words-0 = λ words out e h. pieces.good-words words out e ∙ roomy out 16 h;
+  words-kept = λ words out h. (left-refused _ _ h, left-refused _ _ h);
+  words-past = λ words out. (left-past _ _ _ 16 (bytes-size _ 16), left-past _ _ _ 16 (bytes-size _ 16));
+  box-2 = pieces.bad-boxed;
+  box-5 = λ index words out e h. pieces.good-boxed index words out e (always index) ∙ short out 16 h;
+  box-0 = λ index words out e h. pieces.good-boxed index words out e (always index) ∙ roomy out 16 h;
+  box-kept = λ index words out h. (left-refused _ _ h, left-refused _ _ h);
+  box-past = λ index words out. (left-past _ _ _ 16 (bytes-size _ 16), left-past _ _ _ 16 (bytes-size _ 16));
   block-1 = λ key block out h. slices.bad-key key block out (refuses key h);
   block-2 = λ key block out k. slices.bad-block key block out (accepted k);
   block-5 = λ key block out k. slices.short-buffer key block out (accepted k);
@@ -220,6 +310,13 @@ answers = record {
   frame-0 = λ frame l a v w f. opening.opens-done frame (record { long = l; agrees = a; known = v; whole = w; few = f });
   frame-refused = λ frame h. (refused _ _ h, refused _ _ h);
   frame-done = λ frame e. (done _ _ e, done _ _ e);
+  start-frame = λ frame out n e. opening.start-refused frame out (λ z. omega arith) ∙ e;
+  start-5 = λ frame out e h. opening.start-room frame out e ∙ short out 16 h;
+  start-0 = λ frame out e h. opening.start-room frame out e ∙ roomy out 16 h;
+  start-kept = λ frame out h. left-refused _ _ h;
+  start-past = λ frame out e. left-past _ _ _ 16 (ap length (sym (done _ _ e)) ∙ opening.start-sixteen frame);
+  part-done = λ frame e. (done _ _ e, ap length (done _ _ e));
+  part-refused = λ frame h. (refused _ _ h, ap length (refused _ _ h));
   window-1 = λ key frame place count out h. window.bad-key key frame place count out (refuses key h);
   window-frame = λ key frame place count out n k. window.bad-frame key frame place count out (accepted k);
   window-9 = λ key frame place count out k. window.beyond key frame place count out (accepted k);
@@ -247,7 +344,7 @@ answers = record {
 }
 
 -- shown once: a promise is an equation with a function of the inputs
-once : {A : Type 0} {x y z : A} → x ≡ z → y ≡ z → x ≡ y
+pub once : {A : Type 0} {x y z : A} → x ≡ z → y ≡ z → x ≡ y
 once p q = p ∙ sym q
 
 pub one-answer : OneAnswer
@@ -259,6 +356,8 @@ one-answer = record {
   le-byte = λ κs a x y s t p q. once p q;
   block-at = λ κs a x y s t p q. once p q;
   put-block-out = λ κs a x y s t p q. once p q;
+  put-answer = λ κs a x y s t p q. once (p .0) (q .0);
+  put-answer-out = λ κs a x y s t p q. once (p .1) (q .1);
   linear-transform = λ κs a x y s t p q. once p q;
   linear-transform-inv = λ κs a x y s t p q. once p q;
   apply-s = λ κs a x y s t p q. once p q;
@@ -271,6 +370,18 @@ one-answer = record {
   encrypt-slice-out = λ κs a x y s t p q. once (p .1) (q .1);
   decrypt-slice = λ κs a x y s t p q. once (p .0) (q .0);
   decrypt-slice-out = λ κs a x y s t p q. once (p .1) (q .1);
+  expand-key-slices = λ κs a x y s t p q. once (p .0) (q .0);
+  expand-key-slices-out = λ κs a x y s t p q. once (p .1) (q .1);
+  new-from-slice-slices = λ κs a x y s t p q. once (p .0) (q .0);
+  new-from-slice-slices-out = λ κs a x y s t p q. once (p .1) (q .1);
+  apply-s-slices = λ κs a x y s t p q. once (p .0) (q .0);
+  apply-s-slices-out = λ κs a x y s t p q. once (p .1) (q .1);
+  apply-s-inv-slices = λ κs a x y s t p q. once (p .0) (q .0);
+  apply-s-inv-slices-out = λ κs a x y s t p q. once (p .1) (q .1);
+  linear-transform-slices = λ κs a x y s t p q. once (p .0) (q .0);
+  linear-transform-slices-out = λ κs a x y s t p q. once (p .1) (q .1);
+  linear-transform-inv-slices = λ κs a x y s t p q. once (p .0) (q .0);
+  linear-transform-inv-slices-out = λ κs a x y s t p q. once (p .1) (q .1);
   encrypt-link = λ κs a x y s t p q. once p q;
   decrypt-link = λ κs a x y s t p q. once p q;
   encrypt-blocks = λ κs a x y s t p q. once (p .0) (q .0);
@@ -289,6 +400,10 @@ one-answer = record {
   frame-number = λ κs a x y s t p q. once p q;
   open-frame = λ κs a x y s t p q. once p q;
   frame-blocks = λ κs a x y s t p q. once p q;
+  frame-start = λ κs a x y s t p q. once (p .0) (q .0);
+  frame-start-out = λ κs a x y s t p q. once (p .1) (q .1);
+  frame-place = λ κs a x y s t p q. once p q;
+  frame-length = λ κs a x y s t p q. once p q;
   read-window = λ κs a x y s t p q. once (p .0) (q .0);
   read-window-out = λ κs a x y s t p q. once (p .1) (q .1);
   search = λ κs a x y s t p q. once p q;

@@ -1,5 +1,6 @@
 pub mod Readings
 pub mod Demand1
+pub mod Exports
 pub mod Demand2
 mod Same
 pub mod Demand3
