@@ -1,6 +1,12 @@
-# make log: a first look. make test: the gate.
+# make log: a first look. make test: the gate. make lib: the library for C.
 
-.PHONY: log vectors test check fmt clean
+.PHONY: log vectors lib test check fmt install uninstall clean
+
+PREFIX = /usr/local
+DESTDIR =
+VERSION = 0.1.0
+ARCHIVE = target/staticlib/libbarkmottle.a
+GATELOG = target/gatelog
 
 # Proves the log, and shows a sample log before and after one bit of it is flipped.
 log:
@@ -13,10 +19,17 @@ vectors:
 	cd crates/check_vectors/data && ../../../target/bin/check_vectors
 	cd crates/check_chain/data && ../../../target/bin/check_chain
 
+# Proves what the C host calls, and writes it as an archive.
+lib:
+	rt staticlib barkmottle
+	@echo "the archive is $(ARCHIVE), its header include/barkmottle.h"
+
 # Everything is proved from nothing, every wrong edit is tried, every program is run.
 # rt's closing line, 'N passed, 0 failed', is the last line of the gate: nothing may follow it.
 test:
 	rt fmt --check
+	rt staticlib barkmottle
+	tests/run.sh $(ARCHIVE)
 	rt ci
 
 # The same without the wrong edits, and with what is proved already kept: for work on the code.
@@ -25,6 +38,23 @@ check:
 
 fmt:
 	rt fmt
+
+# What is installed, and what uninstall removes: these five files.
+to = $(DESTDIR)$(PREFIX)
+install:
+	@test -f "$(ARCHIVE)" || { echo "install: there is no $(ARCHIVE); run make lib first"; exit 1; }
+	@test -f "$(GATELOG)" || { echo "install: there is no $(GATELOG); run make gatelog first"; exit 1; }
+	install -d "$(to)/lib/pkgconfig" "$(to)/include" "$(to)/bin" "$(to)/share/man/man1"
+	install -m 644 "$(ARCHIVE)" "$(to)/lib/libbarkmottle.a"
+	install -m 644 include/barkmottle.h "$(to)/include/barkmottle.h"
+	sed -e 's|@PREFIX@|$(PREFIX)|' -e 's|@VERSION@|$(VERSION)|' barkmottle.pc.in >"$(to)/lib/pkgconfig/barkmottle.pc"
+	chmod 644 "$(to)/lib/pkgconfig/barkmottle.pc"
+	install -m 755 "$(GATELOG)" "$(to)/bin/gatelog"
+	install -m 644 man/gatelog.1 "$(to)/share/man/man1/gatelog.1"
+
+uninstall:
+	rm -f "$(to)/lib/libbarkmottle.a" "$(to)/include/barkmottle.h" "$(to)/lib/pkgconfig/barkmottle.pc" \
+		"$(to)/bin/gatelog" "$(to)/share/man/man1/gatelog.1"
 
 clean:
 	rm -rf target
