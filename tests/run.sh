@@ -1,0 +1,145 @@
+#!/bin/sh
+# Builds and runs the tests of the C side: tests/run.sh [ARCHIVE]. What is built goes to target/c/.
+set -eu
+cd "$(dirname "$0")/.."
+archive=${1:-target/staticlib/libbarkmottle.a}
+cc=${CC:-cc}
+cxx=${CXX:-c++}
+out=target/c
+strict="-Wall -Wextra -Werror -Iinclude"
+sanitize="-fsanitize=address,undefined -fno-sanitize-recover=all"
+
+fail() {
+    echo "C: $1"
+    exit 1
+}
+# build NAME SOURCE FLAGS...: compiles one file and links it to the archive.
+build() {
+    name=$1
+    source=$2
+    shift 2
+    # shellcheck disable=SC2086
+    $cc $strict "$@" "$source" "$archive" -o "$out/$name" || fail "$source is not built"
+}
+there() { command -v "$1" >/dev/null 2>&1; }
+
+test -f "$archive" || fail "there is no $archive; run make lib first"
+mkdir -p "$out"
+
+# The header against the source, and as C99, C11 and C++.
+tests/header.sh || fail "the header and the source differ"
+cat >"$out/twice.c" <<'C'
+#include "barkmottle.h"
+#include "barkmottle.h"
+int main(void) { return barkmottle_open_frame(NULL, 0) == BARKMOTTLE_FRAME_LENGTH ? 0 : 1; }
+C
+for standard in c99 c11; do
+    build twice "$out/twice.c" -std=$standard -pedantic
+    "$out/twice" || fail "a program in $standard gets another number"
+done
+if there "$cxx"; then
+    # shellcheck disable=SC2086
+    $cxx $strict -pedantic -x c++ "$out/twice.c" -x none "$archive" -o "$out/twice" || fail "the header is not C++"
+    "$out/twice" || fail "a program in C++ gets another number"
+    echo "languages: C99, C11 and C++ take the header"
+else
+    echo "languages: C99 and C11 take the header; there is no C++ compiler on this machine"
+fi
+
+# The exports, one by one.
+build exports tests/exports.c -std=c11 -O2
+"$out/exports" --self-test || fail "the tests of the exports do not find every fault"
+"$out/exports" >"$out/exports.out" || fail "an export answers something else: $(cat "$out/exports.out")"
+cat "$out/exports.out"
+# The sanitizers watch the test program, valgrind what the archive does as well.
+echo 'int main(void) { return 0; }' >"$out/empty.c"
+# shellcheck disable=SC2086
+if $cc $sanitize "$out/empty.c" -o "$out/empty" 2>/dev/null && "$out/empty"; then
+    # shellcheck disable=SC2086
+    build exports_sanitized tests/exports.c -std=c11 -O1 -g $sanitize
+    "$out/exports_sanitized" | cmp - "$out/exports.out" || fail "the sanitizers find a fault"
+    echo "exports: the same with the sanitizers for addresses and undefined behaviour"
+else
+    sanitize=
+    echo "exports: the compiler has no sanitizers on this machine"
+fi
+if there valgrind; then
+    valgrind -q --error-exitcode=9 "$out/exports" >"$out/valgrind.out" || fail "valgrind finds a fault"
+    cmp "$out/valgrind.out" "$out/exports.out" || fail "under valgrind an export answers something else"
+    echo "exports: the same under valgrind"
+else
+    echo "exports: valgrind is not on this machine"
+fi
+
+# The sample logs are what make_samples makes, and differ in one bit: byte 120, 0x10.
+build make_samples examples/make_samples.c -std=c99 -pedantic
+mkdir -p "$out/samples"
+rm -f "$out/samples"/*
+"$out/make_samples" "$out/samples" || fail "the samples are not made"
+for sample in key.txt healthy.frame damaged.frame; do
+    cmp "$out/samples/$sample" "examples/$sample" || fail "examples/$sample is not what make_samples makes"
+done
+cmp -l examples/healthy.frame examples/damaged.frame >"$out/flipped" || true
+awk 'function value(o) { return int(o / 100) * 64 + int(o / 10) % 10 * 8 + o % 10 }
+    { d = value($2) - value($3); if ($1 != 120 || (d != 16 && d != -16)) exit 1 }
+    END { exit NR != 1 }' "$out/flipped" || fail "the samples do not differ in the one bit"
+echo "samples: made again, the same"
+
+# The host on the samples, and on what it must refuse.
+# shellcheck disable=SC2086
+build host examples/host.c -std=c99 -pedantic $sanitize
+for sample in healthy damaged; do
+    "$out/host" examples/key.txt "examples/$sample.frame" >"$out/$sample.out" || fail "the host refuses the $sample log"
+    diff "tests/host.$sample.expected" "$out/$sample.out" || fail "the host lists something else of the $sample log"
+done
+# refuses SENTENCE WORDS...: the host says so on standard error and ends with status 1.
+refusals=0
+refuses() {
+    sentence=$1
+    shift
+    status=0
+    "$out/host" "$@" >"$out/refused.out" 2>"$out/refused.err" || status=$?
+    test "$status" -eq 1 || fail "the host ends with status $status where it should say: $sentence"
+    grep -q "$sentence" "$out/refused.err" || fail "the host does not say: $sentence"
+    refusals=$((refusals + 1))
+}
+cut_to() { dd if="$1" bs=1 count="$2" 2>/dev/null; }
+for length in 0 20 21 212; do
+    cut_to examples/healthy.frame "$length" >"$out/cut.frame"
+    refuses "number 6, it is cut off" examples/key.txt "$out/cut.frame"
+done
+{ cat examples/healthy.frame && echo; } >"$out/long.frame"
+refuses "number 6, it is cut off" examples/key.txt "$out/long.frame"
+{ printf '\000\000\000\021\002' && cut_to examples/key.txt 16; } >"$out/version.frame"
+refuses "number 7, its version" examples/key.txt "$out/version.frame"
+{ printf '\000\000\000\022\001' && cut_to examples/key.txt 17; } >"$out/ragged.frame"
+refuses "number 2, it does not end" examples/key.txt "$out/ragged.frame"
+dd if=/dev/zero of="$out/huge.frame" bs=5000 count=1 2>/dev/null
+refuses "longer than any frame" examples/key.txt "$out/huge.frame"
+cut_to examples/key.txt 30 >"$out/short.txt"
+refuses "number 1, the key is not 16 to 32 bytes" "$out/short.txt" examples/healthy.frame
+{ cat examples/key.txt && echo 00; } >"$out/long.txt"
+refuses "number 1, the key is not 16 to 32 bytes" "$out/long.txt" examples/healthy.frame
+cut_to examples/key.txt 31 >"$out/odd.txt"
+refuses "cannot be read as a key" "$out/odd.txt" examples/healthy.frame
+refuses "cannot be read as a key" examples/healthy.frame examples/healthy.frame
+refuses "cannot be read as a key" "$out/none" examples/healthy.frame
+refuses "cannot be opened" examples/key.txt "$out/none"
+refuses "usage" examples/key.txt
+if [ -c /dev/full ]; then
+    if "$out/host" examples/key.txt examples/healthy.frame >/dev/full 2>/dev/null; then
+        fail "the host does not notice that nothing could be written"
+    fi
+fi
+echo "host: both samples listed as expected, $refusals refusals said"
+
+tests/install.sh "$archive" || fail "the installation has a fault"
+if there groff; then
+    groff -man -ww -z man/gatelog.1 >"$out/man.log" 2>&1 || fail "groff refuses the manual page"
+    test ! -s "$out/man.log" || fail "the manual page: $(cat "$out/man.log")"
+    echo "manual: no complaint of groff"
+else
+    echo "manual: groff is not on this machine"
+fi
+
+echo "C: all passed"
