@@ -57,7 +57,8 @@ echo 'int main(void) { return 0; }' >"$out/empty.c"
 if $cc $sanitize "$out/empty.c" -o "$out/empty" 2>/dev/null && "$out/empty"; then
     # shellcheck disable=SC2086
     build exports_sanitized tests/exports.c -std=c11 -O1 -g $sanitize
-    "$out/exports_sanitized" | cmp - "$out/exports.out" || fail "the sanitizers find a fault"
+    "$out/exports_sanitized" >"$out/sanitized.out" || fail "the sanitizers find a fault"
+    cmp "$out/sanitized.out" "$out/exports.out" || fail "with the sanitizers an export answers something else"
     echo "exports: the same with the sanitizers for addresses and undefined behaviour"
 else
     sanitize=
@@ -80,9 +81,15 @@ for sample in key.txt healthy.frame damaged.frame; do
     cmp "$out/samples/$sample" "examples/$sample" || fail "examples/$sample is not what make_samples makes"
 done
 cmp -l examples/healthy.frame examples/damaged.frame >"$out/flipped" || true
-awk 'function value(o) { return int(o / 100) * 64 + int(o / 10) % 10 * 8 + o % 10 }
-    { d = value($2) - value($3); if ($1 != 120 || (d != 16 && d != -16)) exit 1 }
-    END { exit NR != 1 }' "$out/flipped" || fail "the samples do not differ in the one bit"
+# shellcheck disable=SC2016
+one_bit='function value(octal) { return int(octal / 100) * 64 + int(octal / 10) % 10 * 8 + octal % 10 }
+    { a = value($2); b = value($3) }
+    $1 != 120 || a == b || a % 16 != b % 16 || int(a / 32) != int(b / 32) { other = 1 }
+    END { exit NR != 1 || other }'
+awk "$one_bit" "$out/flipped" || fail "the samples do not differ in that one bit"
+for other in '119 1 21' '120 20 40' '120 1 1' '120 1 22' ''; do
+    if echo "$other" | awk "$one_bit"; then fail "the test for one bit takes '$other'"; fi
+done
 echo "samples: made again, the same"
 
 # The host on the samples, and on what it must refuse.
