@@ -10,7 +10,7 @@
  * Rules for every function:
  *
  *  - A slice is a pointer and a length in bytes. A null pointer with length 0 is an empty slice.
- *  - The buffers lent to one call must not overlap, unless both are only read.
+ *  - The buffers lent to one call must not overlap.
  *  - Any lengths, places and bytes may be handed over; each call has an answer. Most answers are a number of the
  *    table below. A number is given when its row holds and no earlier test of the function's order holds.
  *  - A refusal (any number but 0) changes no byte of any lent buffer, and the functions that return a

@@ -46,6 +46,26 @@ else
     echo "languages: C99 and C11 take the header; there is no C++ compiler on this machine"
 fi
 
+# The archive has the functions of the header and no other, calls nothing that could allocate, and keeps no data.
+# shellcheck disable=SC2016
+strange='$2 == "U" && $1 !~ /^mem(cpy|move|set|cmp)$/ { print "calls " $1 }
+    $2 ~ /^[BbCcDdGgSs]$/ { print "keeps " $1 }
+    $2 ~ /^[TWV]$/ && $1 !~ /^barkmottle_/ { print "defines " $1 }'
+if there nm; then
+    nm -P "$archive" >"$out/symbols"
+    awk "$strange" "$out/symbols" >"$out/strange"
+    test ! -s "$out/strange" || fail "the archive $(cat "$out/strange")"
+    awk '$2 == "T" { print $1 }' "$out/symbols" | sort >"$out/defined"
+    grep -o 'barkmottle_[a-z_]*(' include/barkmottle.h | tr -d '(' | sort >"$out/declared"
+    diff "$out/declared" "$out/defined" || fail "the archive does not have the header's functions"
+    for other in 'malloc U' 'counter b 0 8' 'other T 0 8'; do
+        test -n "$(echo "$other" | awk "$strange")" || fail "the test of the archive takes '$other'"
+    done
+    echo "archive: $(wc -l <"$out/defined") functions, nothing allocated, no data that is kept"
+else
+    echo "archive: not looked into, as nm is not on this machine"
+fi
+
 # The exports, one by one.
 build exports tests/exports.c -std=c11 -O2
 "$out/exports" --self-test || fail "the tests of the exports do not find every fault"
@@ -95,10 +115,16 @@ echo "samples: made again, the same"
 # The host on the samples, and on what it must refuse.
 # shellcheck disable=SC2086
 build host examples/host.c -std=c99 -pedantic $sanitize
-for sample in healthy damaged; do
-    "$out/host" examples/key.txt "examples/$sample.frame" >"$out/$sample.out" || fail "the host refuses the $sample log"
-    diff "tests/host.$sample.expected" "$out/$sample.out" || fail "the host lists something else of the $sample log"
-done
+# lists NAME KEYFILE FRAMEFILE: the host writes what tests/host.NAME.expected has.
+lists() {
+    "$out/host" "$2" "$3" >"$out/$1.out" || fail "the host refuses the log: $1"
+    diff "tests/host.$1.expected" "$out/$1.out" || fail "the host lists something else: $1"
+}
+lists healthy examples/key.txt examples/healthy.frame
+lists damaged examples/key.txt examples/damaged.frame
+# A wrong key is not noticed; most blocks are unreadable, the last ones among them.
+printf '%064d\n' 0 >"$out/wrong.txt"
+lists wrong_key "$out/wrong.txt" examples/healthy.frame
 # refuses SENTENCE WORDS...: the host says so on standard error and ends with status 1.
 refusals=0
 refuses() {
@@ -138,7 +164,7 @@ if [ -c /dev/full ]; then
         fail "the host does not notice that nothing could be written"
     fi
 fi
-echo "host: both samples listed as expected, $refusals refusals said"
+echo "host: both samples, and one under a wrong key, listed as expected; $refusals refusals said"
 
 tests/install.sh "$archive" || fail "the installation has a fault"
 if there groff; then
