@@ -356,8 +356,10 @@ static void word_refusals(enum export export, size_t index)
 /* One makes `after` of `before`, its inverse makes `before` of `after`. */
 static void both_ways(enum export there, enum export back, size_t index, const uint8_t *before, const uint8_t *after)
 {
-    EXPECT(.export = there, .number = {index}, .in = {S(before, 16)}, .out = 16, .answer = after, .length = 16);
-    EXPECT(.export = back, .number = {index}, .in = {S(after, 16)}, .out = 19, .answer = before, .length = 16);
+    for (size_t out = 16; out <= 19; out += 3) {
+        EXPECT(.export = there, .number = {index}, .in = {S(before, 16)}, .out = out, .answer = after, .length = 16);
+        EXPECT(.export = back, .number = {index}, .in = {S(after, 16)}, .out = out, .answer = before, .length = 16);
+    }
 }
 
 static void boxed(size_t index, const uint8_t *before)
@@ -456,7 +458,7 @@ static void test_blocks(void)
 {
     block_refusals(e_encrypt_block);
     block_refusals(e_decrypt_block);
-    /* NESSIE, set 1, vector 0 for 128, 192 and 256 bits: crates/check_vectors/data has the sets whole. */
+    /* NESSIE, set 1, vector 0 for 128, 192 and 256 bits, as in crates/check_vectors/data/ecb-botan.txt. */
     block_vector("80000000000000000000000000000000", ZERO_BLOCK, "264e5481eff42a4606abda06c0bfda3d");
     block_vector("800000000000000000000000000000000000000000000000", ZERO_BLOCK, "9e274ead9b737bb21efcfca548602689");
     block_vector("8000000000000000000000000000000000000000000000000000000000000000", ZERO_BLOCK,

@@ -140,8 +140,9 @@ sed '/barkmottle_open_frame(/d' "$header" >"$work/h"
 must_fail "a declaration dropped"
 echo 'uint32_t barkmottle_unheard(const uint8_t *key, size_t key_length);' >>"$work/h"
 must_fail "a declaration added"
-sed '/barkmottle_expand_key(/s/const uint8_t \*key, size_t key_length, uint8_t \*out, size_t out_length/uint8_t *out, size_t out_length, const uint8_t *key, size_t key_length/' \
-    "$header" >"$work/h"
+key='const uint8_t \*key, size_t key_length'
+out='uint8_t \*out, size_t out_length'
+sed "/barkmottle_expand_key(/s/$key, $out/$out, $key/" "$header" >"$work/h"
 must_fail "two parameters exchanged"
 sed 's/size_t place, size_t count/size_t count, size_t place/' "$header" >"$work/h"
 must_fail "two parameters of one type exchanged"
