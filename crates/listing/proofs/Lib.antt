@@ -3,3 +3,5 @@ pub mod Numerals
 pub mod Signs
 pub mod Times
 pub mod Rows
+pub mod Pages
+pub mod Rooms
