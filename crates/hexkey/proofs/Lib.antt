@@ -1,0 +1,4 @@
+pub mod Values
+pub mod Texts
+pub mod Filling
+pub mod Tests
