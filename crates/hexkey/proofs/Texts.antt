@@ -50,7 +50,7 @@ there l rest n e = (
   sym (drop-drop 1 n l) ∙ ap (drop 1) e,
 )
 
--- the element before place n, and 0 before the first
+-- with a 0 in front, place n + 1 has what place n had
 pub before : (l : List ℕ) (n : ℕ) → getD (0 ∷ l) (n + 1) 0 ≡ getD l n 0
 before l n = rw add-one
 

@@ -20,7 +20,7 @@ returns-4 c = capital _ (omega arith) (omega arith) (omega arith)
 returns-5 : tie.Need-returns-5
 returns-5 c = letter _ (omega arith) (omega arith) (omega arith)
 
--- the bytes between the ranges
+-- the bytes outside of all ranges
 returns-6 : tie.Need-returns-6
 returns-6 c = other _ (λ l h. omega arith) (λ l h. omega arith) (λ l h. omega arith) (λ l h. omega arith) (λ e. omega arith) (omega arith)
 
