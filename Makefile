@@ -1,6 +1,6 @@
-# make log: a first look. make test: the gate. make lib: the library for C.
+# make: a first look. make test: the gate. make lib, make gatelog, make install: what people use.
 
-.PHONY: log vectors lib test check fmt install uninstall clean
+.PHONY: first lib gatelog log vectors test check fmt install uninstall clean
 
 PREFIX = /usr/local
 DESTDIR =
@@ -8,7 +8,27 @@ VERSION = 0.1.0
 ARCHIVE = target/staticlib/libbarkmottle.a
 GATELOG = target/gatelog
 
-# Proves the log, and shows a sample log before and after one bit of it is flipped.
+# The kit's own part in C, for programs that open files.
+KIT = $(patsubst %/docs/START-HERE.md,%,$(shell rt doc))
+
+# Proves and builds the command, and lists a sample log before and after one bit of it is flipped.
+first: gatelog
+	@echo
+	@echo "A healthy log: $(GATELOG) examples/key.txt examples/healthy.frame"
+	@$(GATELOG) examples/key.txt examples/healthy.frame
+	@echo
+	@echo "The same log with one bit flipped: $(GATELOG) examples/key.txt examples/damaged.frame"
+	@$(GATELOG) examples/key.txt examples/damaged.frame
+	@echo
+	@echo "The flipped bit made the block at place 6 unreadable and moved the event at place 7 by 4,096 seconds."
+
+# Proves the command, and builds it: a program in Rattle has no exit status of its own, so its main is in C.
+gatelog:
+	@echo "proving the command and what it stands on, one crate after the other; each says how long it took"
+	rt staticlib gatelog
+	$(CC) -Wall -Wextra -Werror -O2 command/main.c target/staticlib/libgatelog.a $(KIT)/lib/libos_c.a -o $(GATELOG)
+
+# Proves the log, and runs readings and refusals through it.
 log:
 	rt check check_log
 	target/bin/check_log
@@ -28,8 +48,9 @@ lib:
 # rt's closing line, 'N passed, 0 failed', is the last line of the gate: nothing may follow it.
 test:
 	rt fmt --check
-	rt staticlib barkmottle
+	$(MAKE) lib gatelog
 	tests/run.sh $(ARCHIVE)
+	tests/command.sh $(GATELOG)
 	rt ci
 
 # The same without the wrong edits, and with what is proved already kept: for work on the code.

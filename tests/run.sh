@@ -112,6 +112,15 @@ for other in '119 1 21' '120 20 40' '120 1 1' '120 1 22' ''; do
 done
 echo "samples: made again, the same"
 
+# So are the files of the program that runs the command on many cases.
+build make_cases tests/make_cases.c -std=c99 -pedantic
+mkdir -p "$out/cases"
+rm -f "$out/cases"/*
+(cd "$out/cases" && ../make_cases) || fail "the cases are not made"
+diff -r "$out/cases" crates/check_gatelog/data || fail "crates/check_gatelog/data is not what make_cases makes"
+cmp "$out/cases/spots.frame" crates/check_gatelog/stdin || fail "crates/check_gatelog/stdin is another log"
+echo "cases: made again, the same"
+
 # The host on the samples, and on what it must refuse.
 # shellcheck disable=SC2086
 build host examples/host.c -std=c99 -pedantic $sanitize
