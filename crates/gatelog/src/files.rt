@@ -60,11 +60,8 @@ fn is_dash(word: &[u8]) -> bool {
     word[0] == b'-'
 }
 
-// Whether a word is "--help" or "-h".
+// Whether a word is "--help".
 pub fn is_help(word: &[u8]) -> bool {
-    if word.len() == 2 {
-        return word[0] == b'-' && word[1] == b'h';
-    }
     if word.len() != 6 {
         return false;
     }

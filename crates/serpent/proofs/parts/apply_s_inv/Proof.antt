@@ -1,11 +1,11 @@
 -- `serpent::parts::apply_s_inv` meets its contract: the box is chosen before the room is tested, and its words are written as bytes. Assumes nothing.
-use mathlib.Core.Path.{sym, ap, _∙_}
+use mathlib.Core.Path.{_≡_, sym, ap, _∙_}
 use native.Mathlib.Omega.{arith}
 use borrow.Author.Needs.{needs}
 use Rattle.answers.proofs.Answers.{done, left-refused, answered}
 use Rattle.bitslice.specs.declared.Boxed.{Boxed}
 use Rattle.bitslice.specs.Boxes.{boxInvWords}
-use Rattle.bitslice.specs.Chosen.{chosen}
+use Rattle.bitslice.specs.Chosen.{boxNumber, chosen}
 use Rattle.serpent.proofs.Pieces.{bad-boxed, no-box, good-boxed, through}
 use Rattle.serpent.proofs.parts.apply_s_inv.Statement.{statement}
 use Rattle.serpent.proofs.parts.apply_s_inv.Tie as tie
@@ -20,7 +20,8 @@ unfolding chosen
 returns-2 c =
     let boxed = c .before .before in
     let tested = boxed .before .before .before in
-    let number = ap (λ (b : Boxed). b .number) (boxed .apply-s-inv .ensures) in
+    let index = tested .before .before .before .args .index in
+    let number : boxed .apply-s-inv .result .number ≡ boxNumber index = ap (λ (b : Boxed). b .number) (boxed .apply-s-inv .ensures) in
     let n = no-box _ _ _ (tested .if1 .left) (λ z. c .if2 .taken (number ∙ z)) in
     (number ∙ sym n, sym (left-refused _ _ (λ z. c .if2 .taken (number ∙ sym n ∙ z))))
 
@@ -34,7 +35,8 @@ returns-3 c =
     let read = boxed .before in
     let block = read .before in
     let tested = block .before in
-    let number = ap (λ (b : Boxed). b .number) (boxed .apply-s-inv .ensures) in
+    let index = tested .before .before .before .args .index in
+    let number : boxed .apply-s-inv .result .number ≡ boxNumber index = ap (λ (b : Boxed). b .number) (boxed .apply-s-inv .ensures) in
     let zero = sym number ∙ there .if2 .left in
     let words = ap (λ (b : Boxed). b .words) (boxed .apply-s-inv .ensures) ∙ done _ _ zero in
     answered _ _ (good-boxed _ _ _ (tested .if1 .left) zero)

@@ -1,7 +1,9 @@
 -- `serpent::parts::expand_key` meets its contract: a key that is taken has at most 32 bytes, and its padding is put. Assumes nothing.
-use mathlib.Core.Path.{sym, _∙_}
+use mathlib.Core.Path.{_≡_, sym, _∙_}
 use borrow.Author.Needs.{needs}
+use lib.ListN.{length}
 use Rattle.answers.proofs.Answers.{left-refused, answered}
+use Rattle.serpent.specs.Keys.{keyNumber}
 use Rattle.serpent.proofs.KeyTest.{accepted}
 use Rattle.serpent.proofs.Pieces.{bad-key, good-key}
 use Rattle.serpent.proofs.parts.expand_key.Statement.{statement}
@@ -9,7 +11,8 @@ use Rattle.serpent.proofs.parts.expand_key.Tie as tie
 
 returns : tie.Need-returns
 returns c =
-    let number = c .before .key-number .ensures in
+    let key = c .before .before .before .before .args .key .now in
+    let number : c .before .key-number .result ≡ keyNumber (length key) = c .before .key-number .ensures in
     let n = bad-key _ _ 32 (λ z. c .if1 .taken (number ∙ z)) in
     (number ∙ sym n, sym (left-refused _ _ (λ z. c .if1 .taken (number ∙ sym n ∙ z))))
 
