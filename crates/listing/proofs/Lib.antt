@@ -5,3 +5,4 @@ pub mod Times
 pub mod Rows
 pub mod Pages
 pub mod Rooms
+pub mod Exact
