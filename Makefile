@@ -11,6 +11,10 @@ GATELOG = target/gatelog
 # The kit's own part in C, for programs that open files.
 KIT = $(patsubst %/docs/START-HERE.md,%,$(shell rt doc))
 
+# What the two are made of. They are made one after the other, since both work in target/.
+SOURCES = crates.txt $(shell find crates -name '*.rt' -o -name '*.antt')
+.NOTPARALLEL:
+
 # Proves and builds the command, and lists a sample log before and after one bit of it is flipped.
 first: gatelog
 	@echo
@@ -23,10 +27,12 @@ first: gatelog
 	@echo "The flipped bit made the block at place 6 unreadable and moved the event at place 7 by 4,096 seconds."
 
 # Proves the command, and builds it: a program in Rattle has no exit status of its own, so its main is in C.
-gatelog:
+gatelog: $(GATELOG)
+
+$(GATELOG): $(SOURCES) command/main.c
 	@echo "proving the command and what it stands on, one crate after the other; each says how long it took"
 	rt staticlib gatelog
-	$(CC) -Wall -Wextra -Werror -O2 command/main.c target/staticlib/libgatelog.a $(KIT)/lib/libos_c.a -o $(GATELOG)
+	$(CC) -Wall -Wextra -Werror -O2 command/main.c target/staticlib/libgatelog.a $(KIT)/lib/libos_c.a -o $@
 
 # Proves the log, and runs readings and refusals through it.
 log:
@@ -40,9 +46,11 @@ vectors:
 	cd crates/check_chain/data && ../../../target/bin/check_chain
 
 # Proves what the C host calls, and writes it as an archive.
-lib:
-	rt staticlib barkmottle
+lib: $(ARCHIVE)
 	@echo "the archive is $(ARCHIVE), its header include/barkmottle.h"
+
+$(ARCHIVE): $(SOURCES)
+	rt staticlib barkmottle
 
 # Everything is proved from nothing, every wrong edit is tried, every program is run.
 # rt's closing line, 'N passed, 0 failed', is the last line of the gate: nothing may follow it.

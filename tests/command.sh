@@ -52,6 +52,20 @@ if wrote tests/gatelog.damaged.expected; then fail "the comparison takes another
 lists tests/gatelog.damaged.expected "$key" examples/damaged.frame
 lists tests/gatelog.healthy.expected "$key" - <"$frame"
 
+# The manual page and README show lines of that listing.
+# shown FILE: the lines of a listing in it, one of each kind at least, stand in the listing as they are.
+shown() {
+    grep -E '^ *(place  UTC|[0-9]+  (unreadable|20))' "$1" | sed -E 's/^    (place|    [ 0-9])/\1/' >"$out/command.shown"
+    test "$(wc -l <"$out/command.shown")" -ge 4 || fail "$1 shows no listing"
+    while IFS= read -r line; do
+        grep -qxF -- "$line" "$2" || return 1
+    done <"$out/command.shown"
+}
+for text in man/gatelog.1 README.md; do
+    shown "$text" tests/gatelog.damaged.expected || fail "$text shows a line that the command does not list"
+    if shown "$text" tests/gatelog.healthy.expected; then fail "the test of $text takes another listing"; fi
+done
+
 # The usage, asked for and not.
 run 0 --help
 grep -q '^usage: gatelog KEYFILE FRAMEFILE$' "$out/command.out" || fail "--help shows no usage"
