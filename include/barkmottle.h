@@ -48,19 +48,20 @@
 extern "C" {
 #endif
 
+/* The same numbers by their names. */
 enum barkmottle_number {
     BARKMOTTLE_DONE = 0,
-    BARKMOTTLE_KEY_LENGTH = 1,
-    BARKMOTTLE_TEXT_LENGTH = 2,
-    BARKMOTTLE_START_LENGTH = 3,
-    BARKMOTTLE_TOO_MANY = 4,
-    BARKMOTTLE_OUT_SHORT = 5,
-    BARKMOTTLE_FRAME_LENGTH = 6,
-    BARKMOTTLE_VERSION = 7,
-    BARKMOTTLE_NO_BOX = 8,
-    BARKMOTTLE_BEYOND = 9,
-    BARKMOTTLE_NOT_READABLE = 10,
-    BARKMOTTLE_NO_EVENT = 11
+    BARKMOTTLE_KEY_LENGTH = 1,    /* the key is not 16 to 32 bytes */
+    BARKMOTTLE_TEXT_LENGTH = 2,   /* text or cipher is not whole blocks; a block or event is not 16 bytes */
+    BARKMOTTLE_START_LENGTH = 3,  /* the start block is not 16 bytes */
+    BARKMOTTLE_TOO_MANY = 4,      /* more than 256 blocks */
+    BARKMOTTLE_OUT_SHORT = 5,     /* out is shorter than the answer */
+    BARKMOTTLE_FRAME_LENGTH = 6,  /* the frame is under 21 bytes, or its length field disagrees */
+    BARKMOTTLE_VERSION = 7,       /* the version byte is not 1 */
+    BARKMOTTLE_NO_BOX = 8,        /* never given */
+    BARKMOTTLE_BEYOND = 9,        /* the place or the window is beyond the blocks */
+    BARKMOTTLE_NOT_READABLE = 10, /* the event is not readable */
+    BARKMOTTLE_NO_EVENT = 11      /* no readable event from the place on */
 };
 
 /* The class of an event, by its kind byte. */
