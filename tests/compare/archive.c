@@ -1,0 +1,49 @@
+/* The archive as the one that is held against a list: it makes the list anew. */
+#include <stdlib.h>
+#include <string.h>
+
+#include "barkmottle.h"
+#include "other.h"
+
+static uint8_t key[MOST_KEY];
+static size_t key_length;
+
+static const char *version(void) { return "the archive"; }
+
+static int made_for(size_t length) { return length >= LEAST_KEY && length <= MOST_KEY; }
+
+static uint32_t set_key(const uint8_t *bytes, size_t length)
+{
+    uint8_t round_keys[ROUND_KEYS];
+    memcpy(key, bytes, length);
+    key_length = length;
+    return barkmottle_new_from_slice(key, key_length, round_keys, sizeof round_keys);
+}
+
+static void done(uint32_t number)
+{
+    if (number != BARKMOTTLE_DONE)
+        abort();
+}
+
+static void round_keys(uint8_t *out) { done(barkmottle_new_from_slice(key, key_length, out, ROUND_KEYS)); }
+
+static void encrypt_block(const uint8_t *block, uint8_t *out)
+{
+    done(barkmottle_encrypt_block(key, key_length, block, BLOCK, out, BLOCK));
+}
+
+static void decrypt_block(const uint8_t *block, uint8_t *out)
+{
+    done(barkmottle_decrypt_block(key, key_length, block, BLOCK, out, BLOCK));
+}
+
+const struct other other = {
+    .name = "barkmottle",
+    .version = version,
+    .made_for = made_for,
+    .set_key = set_key,
+    .round_keys = round_keys,
+    .encrypt_block = encrypt_block,
+    .decrypt_block = decrypt_block,
+};

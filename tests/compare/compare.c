@@ -1,0 +1,224 @@
+/*
+ * Holds the archive against another Serpent: compare [--keys N] [--seed S].
+ *
+ * For each key: its round keys, one block each way, one chain each way, and where the other shows them a box and the
+ * linear transform, each with its inverse. Keys have every length from 15 to 33 that the other is made for, and are
+ * all zero, all one, a single bit at every place, then drawn. Compared are the number, the bytes of the answer and every
+ * other byte of the room that the output buffer stands in. Buffers are at times too long, too short or empty.
+ */
+#define _DEFAULT_SOURCE
+#include <inttypes.h>
+#include <stdio.h>
+#include <stdlib.h>
+#include <string.h>
+#include <time.h>
+
+#include "barkmottle.h"
+#include "drawn.h"
+#include "other.h"
+
+enum { MARGIN = 64, CHAIN = MOST_BLOCKS * BLOCK, ROOM = MARGIN + CHAIN + MARGIN };
+
+static uint64_t state;
+static uint8_t key[MOST_KEY];
+static size_t key_length;
+static uint32_t refusal; /* the number of the other's refusal of the key, or 0 */
+
+static struct {
+    unsigned long keys, refused, round_keys, single, chains, chained, steps, calls, different;
+} count;
+
+/* ---- One call ---- */
+
+static uint8_t before[ROOM], room[ROOM];
+static uint8_t *const out = room + MARGIN;
+static size_t out_length;
+
+/* A room with other bytes, and in it a buffer for an answer of this size: mostly long enough. */
+static void make_room(size_t size)
+{
+    static const size_t longer = MARGIN / 2;
+    const uint64_t choice = drawn(&state) % 8;
+    out_length = choice == 0 ? 0 : choice == 1 && size > 0 ? size - 1 : choice < 4 ? size + 1 + choice * longer / 4 : size;
+    memcpy(room, before, ROOM);
+}
+
+static void say_hex(const char *name, const uint8_t *bytes, size_t length)
+{
+    fprintf(stderr, "  %s ", name);
+    for (size_t i = 0; i < length; i++)
+        fprintf(stderr, "%02x", bytes[i]);
+    fprintf(stderr, "\n");
+}
+
+static void say_difference(const char *what, uint32_t got, uint32_t wanted, size_t at)
+{
+    if (++count.different > 3)
+        return;
+    fprintf(stderr, "different: %s, key of %zu bytes, buffer of %zu: number %" PRIu32 ", %s has %" PRIu32 "\n", what,
+            key_length, out_length, got, other.name, wanted);
+    if (at < ROOM)
+        fprintf(stderr, "  the first byte that differs is byte %ld of the buffer\n", (long)at - MARGIN);
+    say_hex("key", key, key_length);
+}
+
+/*
+ * Holds what came of a call against the other: if it refused the key, so must the archive; else, with room for it, the
+ * answer stands at the buffer's beginning. All else of the room is kept. Returns whether an answer was compared.
+ */
+static int held(const char *what, uint32_t got, const uint8_t *answer, size_t size)
+{
+    static uint8_t after[ROOM];
+    const uint32_t wanted = refusal != 0 ? refusal : out_length < size ? BARKMOTTLE_OUT_SHORT : BARKMOTTLE_DONE;
+    size_t at = 0;
+    count.calls++;
+    memcpy(after, before, ROOM);
+    if (wanted == BARKMOTTLE_DONE)
+        memcpy(after + MARGIN, answer, size);
+    while (at < ROOM && memcmp(room + at, after + at, BLOCK) == 0)
+        at += BLOCK;
+    while (at < ROOM && room[at] == after[at])
+        at++;
+    if (got != wanted || at < ROOM)
+        say_difference(what, got, wanted, at);
+    return wanted == BARKMOTTLE_DONE;
+}
+
+/* ---- The operations ---- */
+
+#define KEY key, key_length
+#define OUT out, out_length
+
+static void compare_round_keys(void)
+{
+    uint8_t answer[ROUND_KEYS];
+    if (other.round_keys == NULL)
+        return;
+    if (refusal == 0)
+        other.round_keys(answer);
+    make_room(ROUND_KEYS);
+    count.round_keys += held("round keys", barkmottle_new_from_slice(KEY, OUT), answer, ROUND_KEYS);
+}
+
+static void compare_block(void)
+{
+    uint8_t block[BLOCK], answer[BLOCK];
+    draw_bytes(&state, block, BLOCK);
+    if (refusal == 0)
+        other.encrypt_block(block, answer);
+    make_room(BLOCK);
+    count.single += held("a block enciphered", barkmottle_encrypt_block(KEY, block, BLOCK, OUT), answer, BLOCK);
+    if (refusal == 0)
+        other.decrypt_block(block, answer);
+    make_room(BLOCK);
+    count.single += held("a block deciphered", barkmottle_decrypt_block(KEY, block, BLOCK, OUT), answer, BLOCK);
+}
+
+static void compare_chain(size_t blocks)
+{
+    static uint8_t text[CHAIN], answer[CHAIN];
+    const size_t size = blocks * BLOCK;
+    uint8_t start[BLOCK];
+    int done;
+    draw_bytes(&state, start, BLOCK);
+    draw_bytes(&state, text, size);
+    if (refusal == 0)
+        other.encrypt_chain(start, text, blocks, answer);
+    make_room(size);
+    done = held("a chain enciphered", barkmottle_encrypt_chain(KEY, text, size, start, BLOCK, OUT), answer, size);
+    count.chains += (unsigned)done;
+    count.chained += done ? blocks : 0;
+    if (refusal == 0)
+        other.decrypt_chain(start, text, blocks, answer);
+    make_room(size);
+    done = held("a chain deciphered", barkmottle_decrypt_chain(KEY, text, size, start, BLOCK, OUT), answer, size);
+    count.chains += (unsigned)done;
+    count.chained += done ? blocks : 0;
+}
+
+/* A box and the linear transform, which have no key. */
+static void compare_steps(void)
+{
+    const size_t index = (size_t)drawn(&state);
+    uint8_t words[BLOCK], answer[BLOCK];
+    if (other.apply_s == NULL)
+        return;
+    draw_bytes(&state, words, BLOCK);
+    refusal = 0;
+    other.apply_s(index, words, answer);
+    make_room(BLOCK);
+    count.steps += held("a box", barkmottle_apply_s(index, words, BLOCK, OUT), answer, BLOCK);
+    other.apply_s_inv(index, words, answer);
+    make_room(BLOCK);
+    count.steps += held("an inverse box", barkmottle_apply_s_inv(index, words, BLOCK, OUT), answer, BLOCK);
+    other.linear_transform(words, answer);
+    make_room(BLOCK);
+    count.steps += held("the linear transform", barkmottle_linear_transform(words, BLOCK, OUT), answer, BLOCK);
+    other.linear_transform_inv(words, answer);
+    make_room(BLOCK);
+    count.steps += held("the inverse transform", barkmottle_linear_transform_inv(words, BLOCK, OUT), answer, BLOCK);
+}
+
+/* ---- All keys ---- */
+
+/* The keys of one length, by their number: all bits 0, all bits 1, each single bit, and from then on drawn ones. */
+static void make_key(size_t length, size_t number)
+{
+    memset(key, number == 1 ? 0xff : 0, length);
+    if (number >= 2 + 8 * length)
+        draw_bytes(&state, key, length);
+    else if (number >= 2)
+        key[(number - 2) / 8] = (uint8_t)(1u << (number - 2) % 8);
+}
+
+static void compare_key(size_t length, size_t number)
+{
+    key_length = length;
+    make_key(length, number);
+    draw_bytes(&state, before, ROOM);
+    refusal = other.set_key(key, key_length);
+    count.keys++;
+    count.refused += refusal != 0;
+    compare_round_keys();
+    compare_block();
+    compare_chain(number % (MOST_BLOCKS + 1));
+    compare_steps();
+}
+
+static uint64_t number_of(const char *text)
+{
+    char *end;
+    uint64_t number = strtoull(text, &end, 0);
+    if (*text < '0' || *text > '9' || *end != '\0') {
+        fprintf(stderr, "usage: compare [--keys N] [--seed S], N and S numbers\n");
+        exit(2);
+    }
+    return number;
+}
+
+int main(int argument_count, char **arguments)
+{
+    size_t lengths[MOST_KEY + 1], kinds = 0, keys = 5000;
+    uint64_t seed = (uint64_t)time(NULL);
+    for (int i = 1; i < argument_count; i += 2) {
+        const char *value = i + 1 < argument_count ? arguments[i + 1] : "";
+        if (strcmp(arguments[i], "--keys") == 0)
+            keys = number_of(value);
+        else if (strcmp(arguments[i], "--seed") == 0)
+            seed = number_of(value);
+        else
+            number_of("");
+    }
+    state = seed;
+    printf("compare: with %s %s, seed %" PRIu64 "\n", other.name, other.version(), seed);
+    for (size_t length = LEAST_KEY; length <= MOST_KEY; length++)
+        if (other.made_for(length))
+            lengths[kinds++] = length;
+    for (size_t i = 0; i < keys; i++)
+        compare_key(lengths[i % kinds], i / kinds);
+    printf("compare: %lu keys of %zu lengths from %zu to %zu, %lu of them refused; %lu sets of round keys, %lu single "
+           "blocks, %lu blocks in %lu chains, %lu boxes and transforms; %lu calls, %lu different\n",
+           count.keys, kinds, lengths[0], lengths[kinds - 1], count.refused, count.round_keys, count.single,
+           count.chained, count.chains, count.steps, count.calls, count.different);
+    return count.different == 0 ? 0 : 1;
+}
