@@ -1,6 +1,6 @@
 # make: a first look. make test: the gate. make lib, make gatelog, make install: what people use.
 
-.PHONY: first lib gatelog log vectors test check fmt install uninstall clean
+.PHONY: first lib gatelog log vectors differential peers test check fmt install uninstall clean
 
 PREFIX = /usr/local
 DESTDIR =
@@ -52,12 +52,25 @@ lib: $(ARCHIVE)
 $(ARCHIVE): $(SOURCES)
 	rt staticlib barkmottle
 
+# The library against the Rust crate, at full size: make differential [KEYS=N] [SEED=S] [SERPENT_SOURCE=FOLDER].
+differential: export KEYS := $(or $(KEYS),500000)
+differential: export SEED := $(or $(SEED),$(shell date +%s))
+differential: lib
+	tests/differential.sh $(ARCHIVE)
+
+# The same against other libraries: make peers [KEYS=N] [SEED=S]. It installs those that are missing, where it may.
+peers: export KEYS := $(or $(KEYS),100000)
+peers: export SEED := $(or $(SEED),$(shell date +%s))
+peers: lib
+	tests/peers.sh $(ARCHIVE)
+
 # Everything is proved from nothing, every wrong edit is tried, every program is run.
 # rt's closing line, 'N passed, 0 failed', is the last line of the gate: nothing may follow it.
 test:
 	rt fmt --check
 	$(MAKE) lib gatelog
 	tests/run.sh $(ARCHIVE)
+	tests/differential.sh $(ARCHIVE)
 	tests/command.sh $(GATELOG)
 	rt ci
 

@@ -4,7 +4,8 @@
  * For each key: its round keys, one block each way, one chain each way, and where the other shows them a box and the
  * linear transform, each with its inverse. Keys have every length from 15 to 33 that the other is made for, and are
  * all zero, all one, a single bit at every place, then drawn. Compared are the number, the bytes of the answer and every
- * other byte of the room that the output buffer stands in. Buffers are at times too long, too short or empty.
+ * other byte of the room that the output buffer stands in. Buffers are at times too long, too short or empty. A key with
+ * a difference is the last.
  */
 #define _DEFAULT_SOURCE
 #include <inttypes.h>
@@ -37,9 +38,8 @@ static size_t out_length;
 /* A room with other bytes, and in it a buffer for an answer of this size: mostly long enough. */
 static void make_room(size_t size)
 {
-    static const size_t longer = MARGIN / 2;
-    const uint64_t choice = drawn(&state) % 8;
-    out_length = choice == 0 ? 0 : choice == 1 && size > 0 ? size - 1 : choice < 4 ? size + 1 + choice * longer / 4 : size;
+    const size_t lengths[] = {0, size > 0 ? size - 1 : size, size + 1, size + MARGIN / 2, size, size, size, size};
+    out_length = lengths[drawn(&state) % (sizeof lengths / sizeof *lengths)];
     memcpy(room, before, ROOM);
 }
 
@@ -53,10 +53,9 @@ static void say_hex(const char *name, const uint8_t *bytes, size_t length)
 
 static void say_difference(const char *what, uint32_t got, uint32_t wanted, size_t at)
 {
-    if (++count.different > 3)
-        return;
-    fprintf(stderr, "different: %s, key of %zu bytes, buffer of %zu: number %" PRIu32 ", %s has %" PRIu32 "\n", what,
-            key_length, out_length, got, other.name, wanted);
+    count.different++;
+    fprintf(stderr, "different: %s, key of %zu bytes, buffer of %zu: number %" PRIu32 ", wanted %" PRIu32 "\n", what,
+            key_length, out_length, got, wanted);
     if (at < ROOM)
         fprintf(stderr, "  the first byte that differs is byte %ld of the buffer\n", (long)at - MARGIN);
     say_hex("key", key, key_length);
@@ -211,10 +210,12 @@ int main(int argument_count, char **arguments)
     }
     state = seed;
     printf("compare: with %s %s, seed %" PRIu64 "\n", other.name, other.version(), seed);
+    if (other.left_out != NULL)
+        printf("compare: left out: keys of %s\n", other.left_out());
     for (size_t length = LEAST_KEY; length <= MOST_KEY; length++)
         if (other.made_for(length))
             lengths[kinds++] = length;
-    for (size_t i = 0; i < keys; i++)
+    for (size_t i = 0; i < keys && count.different == 0; i++)
         compare_key(lengths[i % kinds], i / kinds);
     printf("compare: %lu keys of %zu lengths from %zu to %zu, %lu of them refused; %lu sets of round keys, %lu single "
            "blocks, %lu blocks in %lu chains, %lu boxes and transforms; %lu calls, %lu different\n",

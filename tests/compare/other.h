@@ -21,8 +21,9 @@ typedef void other_chain(const uint8_t *start, const uint8_t *text, size_t block
 struct other {
     const char *name;
     const char *(*version)(void);
-    /* Whether it is made for keys of this length, to take or to refuse them. */
+    /* Whether it is made for keys of this length, to take or to refuse them; and which lengths that leaves out. */
     int (*made_for)(size_t key_length);
+    const char *(*left_out)(void);
     /* Keeps the key for the calls below and returns 0, or returns the number of a refusal. */
     uint32_t (*set_key)(const uint8_t *key, size_t length);
     void (*round_keys)(uint8_t *out);

@@ -14,7 +14,7 @@ missing() {
 for file in lib.rs bitslice.rs unroll.rs; do
     test -f "$source/$file" || missing "the Rust crate's $file is not at hand (SERPENT_SOURCE names its folder)"
 done
-command -v rustc >/dev/null 2>&1 || missing "there is no rustc on this machine"
+rustc --edition 2024 --print cfg >/dev/null 2>&1 || missing "there is no rustc for Rust 2024 on this machine"
 source=$(cd "$source" && pwd)
 mkdir -p "$out"
 

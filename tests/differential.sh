@@ -1,0 +1,80 @@
+#!/bin/sh
+# Holds the archive against the Rust crate: tests/differential.sh [ARCHIVE]. KEYS and SEED say how many keys and which.
+# Where the crate is not at hand, the list of its answers stands in. What is built goes to target/c/.
+set -eu
+cd "$(dirname "$0")/.."
+archive=${1:-target/staticlib/libbarkmottle.a}
+keys=${KEYS:-10000}
+seed=${SEED:-1}
+out=target/c/differential
+list=crates/check_oracle/data
+
+fail() {
+    echo "differential: $1"
+    exit 1
+}
+# build PROGRAM SOURCES AND ARCHIVES...
+build() {
+    program=$1
+    shift
+    ${CC:-cc} -Wall -Wextra -Werror -std=c11 -O2 -Iinclude -Itests -Itests/compare "$@" -lpthread -ldl -lm \
+        -o "$out/$program" || fail "$program is not built"
+}
+# lists PROGRAM: whether it makes the list that stands in the repository.
+lists() {
+    rm -rf "$out/list"
+    mkdir -p "$out/list"
+    "$out/$1" "$out/list" 2>/dev/null && for file in "$out/list"/*; do
+        cmp -s "$file" "$list/$(basename "$file")" || return 1
+    done
+}
+
+test -f "$archive" || fail "there is no $archive; run make lib first"
+mkdir -p "$out"
+status=0
+tests/oracle/build.sh "$out/oracle" || status=$?
+case $status in
+0) crate=yes ;;
+3) crate=no ;;
+*) fail "the Rust crate is not built" ;;
+esac
+
+# The list, made by the archive and, where it is at hand, by the crate.
+build make_list tests/oracle/make_list.c tests/compare/archive.c "$archive"
+lists make_list || fail "the archive does not give the answers of the list in $list"
+answers=$(cd "$out/list" && cat patterns.txt single_bits.txt drawn_?.txt | grep -vc '^#')
+echo "differential: the archive gives the $answers answers of the list"
+if [ $crate = yes ]; then
+    build make_list_crate tests/oracle/make_list.c tests/oracle/crate.c "$out/oracle/liboracle.a"
+    lists make_list_crate || fail "the crate does not give the answers of the list in $list"
+    echo "differential: so does the crate"
+    build compare tests/compare/compare.c tests/oracle/crate.c "$archive" "$out/oracle/liboracle.a"
+    "$out/compare" --keys "$keys" --seed "$seed" || fail "the archive and the crate differ"
+fi
+
+# An archive with a wrong object in it must be found.
+found=0
+# finds NAME: the program that was built with the wrong archive does not end well.
+finds() {
+    if "$out/wrong" --keys 10000 --seed 1 >"$out/$1.log" 2>&1; then fail "the comparison does not find $1"; fi
+    grep -q '^different: ' "$out/$1.log" || fail "the comparison of $1 ends for another reason: $(cat "$out/$1.log")"
+}
+for fault in tests/wrong/listed/*.c; do
+    name=$(basename "$fault" .c)
+    tests/wrong/build.sh "$archive" "$fault" "$out/$name.a"
+    build make_list_wrong tests/oracle/make_list.c tests/compare/archive.c "$out/$name.a"
+    if lists make_list_wrong; then fail "the list does not find $name"; fi
+    found=$((found + 1))
+done
+echo "differential: the list finds each of $found wrong objects"
+if [ $crate = yes ]; then
+    found=0
+    for fault in tests/wrong/listed/*.c tests/wrong/compared/*.c; do
+        name=$(basename "$fault" .c)
+        tests/wrong/build.sh "$archive" "$fault" "$out/$name.a"
+        build wrong tests/compare/compare.c tests/oracle/crate.c "$out/$name.a" "$out/oracle/liboracle.a"
+        finds "$name"
+        found=$((found + 1))
+    done
+    echo "differential: the comparison finds each of $found wrong objects"
+fi
