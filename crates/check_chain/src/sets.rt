@@ -2,7 +2,7 @@
 use check_text::hex::bytes_of;
 use check_text::lines;
 use check_text::pattern::FILL;
-use check_text::pattern::is_kept;
+use check_text::pattern::is_answer;
 use check_text::say;
 use check_text::tally::Tally;
 ghost use mathlib.Core.Path.{_≡_};
@@ -19,15 +19,6 @@ pub fn run(deciphering: bool, key: &[u8], text: &[u8], start: &[u8], out: &mut [
         return chain::decrypt_chain(key, text, start, out);
     }
     chain::encrypt_chain(key, text, start, out)
-}
-
-// Whether the first bytes are the wanted ones, and all that follow the fill.
-fn is_answer(out: &[u8], wanted: &[u8]) -> bool {
-    let n = wanted.len();
-    if n > out.len() {
-        return false;
-    }
-    check::same(&out[0..n], wanted) && is_kept(out, n)
 }
 
 // 0 where the operation makes `wanted` of a text; 1 where it makes something else or refuses.

@@ -1,3 +1,4 @@
 -- What the contracts of this crate cite.
 pub mod Frames
 pub mod Counts
+pub mod Pattern
