@@ -96,7 +96,7 @@ pub fn check_set(said: &[u8], name: &[u8], before: Tally) -> Tally {
     say::text(said);
     say::text(name);
     if t.lines == 0 {
-        say::text(b": cannot be read, or has no line\n");
+        say::no_line();
         return before;
     }
     say::set(false, t);

@@ -87,6 +87,11 @@ pub fn counts(t: Tally) {
     );
 }
 
+// What follows the name of a set of which nothing was read.
+pub fn no_line() {
+    text(b": cannot be read, or has no line\n");
+}
+
 // What follows the name of a set: the byte order that it is printed in, and its counts.
 pub fn set(reversed: bool, t: Tally) {
     if reversed {

@@ -111,7 +111,7 @@ pub fn check_set(name: &[u8], reversed: bool, before: Tally) -> Tally {
     let t = check_file(name, reversed);
     say::text(name);
     if t.lines == 0 {
-        say::text(b": cannot be read, or has no line\n");
+        say::no_line();
         return before;
     }
     say::set(reversed, t);
