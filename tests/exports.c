@@ -3,87 +3,21 @@
  *
  * Each slice that is lent stands between two inaccessible pages. Each call is made flush against the page behind
  * and again flush against the page before, and with a null pointer for each slice that is empty. What is only read
- * stands in pages that cannot be written during the call. Output buffers are compared whole.
+ * is lent by pages that cannot be written. Output buffers are compared whole.
  *
  * exports --self-test shows that each of these checks can fail.
  */
-#define _DEFAULT_SOURCE
+#define _GNU_SOURCE
 #include <signal.h>
 #include <stdio.h>
 #include <stdlib.h>
 #include <string.h>
-#include <sys/mman.h>
 #include <sys/wait.h>
 #include <unistd.h>
 
-#include "barkmottle.h"
+#include "exports.h"
 #include "model.h"
-
-#define BLOCK BARKMOTTLE_BLOCK
-#define MOST BARKMOTTLE_MOST_BLOCKS
-#define HEADER BARKMOTTLE_FRAME_HEADER
-
-/* ---- The exports: name, slices that are read, whether one is written, numbers to be seen, arguments ---- */
-
-#define N(number) (1u << (number))
-#define OPENING (N(6) | N(7) | N(2) | N(4))
-#define IN(i) lent->in[i], lent->in_length[i]
-#define OUT lent->out, lent->out_length
-#define KEY_FRAME_PLACE IN(0), IN(1), lent->number[0]
-
-#define FIELDS(X, prefix, inputs, ...)                                                                              \
-    X(prefix##_wall, inputs, 0, 0, __VA_ARGS__)                                                                     \
-    X(prefix##_utc, inputs, 0, 0, __VA_ARGS__)                                                                      \
-    X(prefix##_offset, inputs, 0, 0, __VA_ARGS__)                                                                   \
-    X(prefix##_value, inputs, 0, 0, __VA_ARGS__)                                                                    \
-    X(prefix##_kind, inputs, 0, 0, __VA_ARGS__)                                                                     \
-    X(prefix##_class, inputs, 0, 0, __VA_ARGS__)                                                                    \
-    X(prefix##_inverter, inputs, 0, 0, __VA_ARGS__)                                                                 \
-    X(prefix##_sequence, inputs, 0, 0, __VA_ARGS__)
-
-#define EXPORTS(X)                                                                                                  \
-    X(expand_key, 1, 1, N(0) | N(1) | N(5), IN(0), OUT)                                                             \
-    X(new_from_slice, 1, 1, N(0) | N(1) | N(5), IN(0), OUT)                                                         \
-    X(apply_s, 1, 1, N(0) | N(2) | N(5), lent->number[0], IN(0), OUT)                                               \
-    X(apply_s_inv, 1, 1, N(0) | N(2) | N(5), lent->number[0], IN(0), OUT)                                           \
-    X(linear_transform, 1, 1, N(0) | N(2) | N(5), IN(0), OUT)                                                       \
-    X(linear_transform_inv, 1, 1, N(0) | N(2) | N(5), IN(0), OUT)                                                   \
-    X(encrypt_block, 2, 1, N(0) | N(1) | N(2) | N(5), IN(0), IN(1), OUT)                                            \
-    X(decrypt_block, 2, 1, N(0) | N(1) | N(2) | N(5), IN(0), IN(1), OUT)                                            \
-    X(encrypt_chain, 3, 1, N(0) | N(1) | N(2) | N(3) | N(4) | N(5), IN(0), IN(1), IN(2), OUT)                       \
-    X(decrypt_chain, 3, 1, N(0) | N(1) | N(2) | N(3) | N(4) | N(5), IN(0), IN(1), IN(2), OUT)                       \
-    X(open_frame, 1, 0, N(0) | OPENING, IN(0))                                                                      \
-    X(frame_start, 1, 1, N(0) | OPENING | N(5), IN(0), OUT)                                                         \
-    X(frame_place, 1, 0, 0, IN(0))                                                                                  \
-    X(frame_length, 1, 0, 0, IN(0))                                                                                 \
-    X(read_window, 2, 1, N(0) | N(1) | OPENING | N(9) | N(5), IN(0), IN(1), lent->number[0], lent->number[1], OUT)  \
-    X(read_event, 1, 0, N(0) | N(2) | N(10), IN(0))                                                                 \
-    FIELDS(X, event, 1, IN(0))                                                                                      \
-    X(search, 2, 0, N(0) | N(1) | OPENING | N(9) | N(11), KEY_FRAME_PLACE)                                          \
-    X(search_place, 2, 0, 0, KEY_FRAME_PLACE)                                                                       \
-    X(search_tries, 2, 0, 0, KEY_FRAME_PLACE)                                                                       \
-    FIELDS(X, search, 2, KEY_FRAME_PLACE)
-
-#define AS_ENUM(name, ...) e_##name,
-enum export { EXPORTS(AS_ENUM) COUNT };
-
-#define AS_ROW(name, inputs, writes, numbers, ...) {#name, inputs, writes, numbers},
-static const struct {
-    const char *name;
-    int inputs, writes;
-    unsigned numbers;
-} exports[COUNT] = {EXPORTS(AS_ROW)};
-
-struct slice {
-    const uint8_t *bytes;
-    size_t length;
-};
-
-/* What a call is handed. */
-struct lent {
-    uint8_t *in[3], *out;
-    size_t in_length[3], out_length, number[2];
-};
+#include "rooms.h"
 
 /* A call and what is expected of it: the value returned, and the bytes at the beginning of the output buffer. */
 struct call {
@@ -97,71 +31,9 @@ struct call {
     int64_t (*fake)(const struct lent *); /* called in place of the export, by the self-test */
 };
 
-#define AS_CASE(name, inputs, writes, numbers, ...)                                                                 \
-    case e_##name:                                                                                                  \
-        return (int64_t)barkmottle_##name(__VA_ARGS__);
-
-static int64_t invoke(const struct call *call, const struct lent *lent)
-{
-    if (call->fake != NULL)
-        return call->fake(lent);
-    switch (call->export) {
-        EXPORTS(AS_CASE)
-    default:
-        abort();
-    }
-}
-
-/* ---- Rooms: accessible bytes between two inaccessible pages ---- */
-
-enum { ROOMS = 4, OUT_ROOM = 3, TOUCHED = 3 };
-static uint8_t *rooms[ROOMS];
-static size_t room_size;
-
-static void make_rooms(void)
-{
-    size_t page = (size_t)sysconf(_SC_PAGESIZE);
-    room_size = (8192 + page - 1) / page * page;
-    for (int i = 0; i < ROOMS; i++) {
-        uint8_t *all = mmap(NULL, room_size + 2 * page, PROT_NONE, MAP_PRIVATE | MAP_ANONYMOUS, -1, 0);
-        rooms[i] = all + page;
-        if (all == MAP_FAILED || mprotect(rooms[i], room_size, PROT_READ | PROT_WRITE) != 0) {
-            perror("exports: mmap");
-            exit(2);
-        }
-    }
-}
-
-static void protect(int room, int how)
-{
-    if (mprotect(rooms[room], room_size, how) != 0) {
-        perror("exports: mprotect");
-        exit(2);
-    }
-}
-
-enum pass { BEHIND, BEFORE, NULLS };
-static const char *const pass_names[] = {"flush behind", "flush before", "null where empty"};
-
-/* Where a slice of this length stands in a room. */
-static uint8_t *place_in(int room, size_t length, enum pass pass)
-{
-    if (length > room_size) {
-        fprintf(stderr, "exports: a slice of %zu bytes has no room\n", length);
-        exit(2);
-    }
-    if (pass == NULLS && length == 0)
-        return NULL;
-    return pass == BEFORE ? rooms[room] : rooms[room] + room_size - length;
-}
-
-static uint8_t filler(size_t at)
-{
-    return (uint8_t)(at * 37 + 11);
-}
-
 /* ---- One expectation ---- */
 
+enum { TOUCHED = 3 }; /* the status after a touch */
 static unsigned long calls, checks, wrong;
 static unsigned seen_numbers[COUNT], seen_nulls[COUNT];
 static int quiet;
@@ -179,9 +51,9 @@ static void check(int good, const char *what, long long got, long long want)
                 want);
 }
 
-static void touched(int signal)
+static void touched(int signal, siginfo_t *about, void *context)
 {
-    (void)signal;
+    (void)signal, (void)about, (void)context;
     if (!quiet)
         fprintf(stderr, "wrong: %s, %s: memory was touched that was not lent so\n", current, pass_names[current_pass]);
     _exit(TOUCHED);
@@ -191,25 +63,22 @@ static void lend(const struct call *call, enum pass pass, struct lent *lent)
 {
     for (int i = 0; i < 3; i++) {
         lent->in_length[i] = call->in[i].length;
-        lent->in[i] = place_in(i, call->in[i].length, pass);
-        if (call->in[i].length > 0)
-            memcpy(lent->in[i], call->in[i].bytes, call->in[i].length);
-        protect(i, PROT_READ);
+        lent->in[i] = lend_bytes(i, call->in[i].bytes, call->in[i].length, pass);
     }
     for (size_t at = 0; at < room_size; at++)
-        rooms[OUT_ROOM][at] = filler(at);
+        rooms[OUT_ROOM].own[at] = filler(at);
     lent->out_length = call->out;
-    lent->out = place_in(OUT_ROOM, call->out, pass);
+    lent->out = lend_room(OUT_ROOM, call->out, pass);
     memcpy(lent->number, call->number, sizeof lent->number);
 }
 
 /* The place in the output's room of the first byte that is not as expected, or room_size. */
-static size_t first_wrong(const struct call *call, const struct lent *lent)
+static size_t first_wrong(const struct call *call, enum pass pass)
 {
-    size_t begin = lent->out == NULL ? room_size : (size_t)(lent->out - rooms[OUT_ROOM]);
+    size_t begin = place_in_room(call->out, pass);
     for (size_t at = 0; at < room_size; at++) {
         int answered = at >= begin && at - begin < call->length;
-        if (rooms[OUT_ROOM][at] != (answered ? call->answer[at - begin] : filler(at)))
+        if (rooms[OUT_ROOM].own[at] != (answered ? call->answer[at - begin] : filler(at)))
             return at;
     }
     return room_size;
@@ -220,16 +89,14 @@ static void run(const struct call *call, enum pass pass)
     struct lent lent;
     current_pass = pass;
     lend(call, pass, &lent);
-    int64_t got = invoke(call, &lent);
+    int64_t got = call->fake != NULL ? call->fake(&lent) : invoke(call->export, &lent);
     calls++;
     check(got == call->want, "returned", got, call->want);
-    size_t at = first_wrong(call, &lent);
+    size_t at = first_wrong(call, pass);
     check(at == room_size, "first wrong place of the output's room", (long long)at, (long long)room_size);
-    for (int i = 0; i < 3; i++) {
+    for (int i = 0; i < 3; i++)
         check(call->in[i].length == 0 || memcmp(lent.in[i], call->in[i].bytes, call->in[i].length) == 0,
               "an input that is kept", 0, 1);
-        protect(i, PROT_READ | PROT_WRITE);
-    }
 }
 
 static void expect(const struct call *call)
@@ -553,10 +420,6 @@ static void opened(size_t length, uint32_t number)
     EXPECT(.export = e_frame_length, .in = {all}, .want = done ? (int64_t)(length - HEADER) : 0);
 }
 
-/* The eight fields, in the order of FIELDS. */
-struct fields {
-    int64_t of[8];
-};
 static const struct fields no_fields;
 
 static void searched(struct slice key, struct slice all, size_t place, uint32_t number, size_t found, size_t tries,
@@ -836,10 +699,8 @@ static int self_test(void)
 
 int main(int count, char **words)
 {
-    struct sigaction action = {.sa_handler = touched};
-    sigaction(SIGSEGV, &action, NULL);
-    sigaction(SIGBUS, &action, NULL);
     make_rooms();
+    catch_touches(touched);
     make_noise();
     if (count == 2 && strcmp(words[1], "--self-test") == 0)
         return self_test();
