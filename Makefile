@@ -1,6 +1,6 @@
 # make: a first look. make test: the gate. make lib, make gatelog, make install: what people use.
 
-.PHONY: first lib gatelog log vectors differential peers test check fmt install uninstall clean
+.PHONY: first lib gatelog log vectors differential peers hostile test check fmt install uninstall clean
 
 PREFIX = /usr/local
 DESTDIR =
@@ -64,6 +64,13 @@ peers: export SEED := $(or $(SEED),$(shell date +%s))
 peers: lib
 	tests/peers.sh $(ARCHIVE)
 
+# Ten million calls with drawn input, and a million inputs of libFuzzer's: make hostile [CALLS=N] [RUNS=N] [SEED=S].
+hostile: export CALLS := $(or $(CALLS),10000000)
+hostile: export RUNS := $(or $(RUNS),1000000)
+hostile: export SEED := $(or $(SEED),$(shell date +%s))
+hostile: lib
+	tests/hostile.sh $(ARCHIVE)
+
 # Everything is proved from nothing, every wrong edit is tried, every program is run.
 # rt's closing line, 'N passed, 0 failed', is the last line of the gate: nothing may follow it.
 test:
@@ -71,6 +78,7 @@ test:
 	$(MAKE) lib gatelog
 	tests/run.sh $(ARCHIVE)
 	tests/differential.sh $(ARCHIVE)
+	tests/hostile.sh $(ARCHIVE)
 	tests/command.sh $(GATELOG)
 	rt ci
 

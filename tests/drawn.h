@@ -6,7 +6,7 @@
 #include <stdint.h>
 
 /* Steele, Lea, Flood: "Fast splittable pseudorandom number generators", the generator SplitMix64. */
-static uint64_t drawn(uint64_t *state)
+static inline uint64_t drawn(uint64_t *state)
 {
     uint64_t z = *state += 0x9e3779b97f4a7c15u;
     z = (z ^ z >> 30) * 0xbf58476d1ce4e5b9u;
@@ -14,7 +14,7 @@ static uint64_t drawn(uint64_t *state)
     return z ^ z >> 31;
 }
 
-static void draw_bytes(uint64_t *state, uint8_t *bytes, size_t length)
+static inline void draw_bytes(uint64_t *state, uint8_t *bytes, size_t length)
 {
     for (size_t at = 0; at < length; at += 8) {
         uint64_t word = drawn(state);

@@ -41,7 +41,7 @@ if all_seen "$out/one.out"; then fail "one case is taken for all"; fi
 if there objcopy; then
     found=0
     mkdir -p "$out/wrong"
-    for fault in tests/wrong/log/*.c; do
+    for fault in tests/wrong/hostile/*.c; do
         tests/wrong/build.sh "$archive" "$fault" "$out/wrong/archive.a" || fail "$fault is not built"
         $cc "$out"/*.o "$out/wrong/archive.a" -o "$out/wrong/hostile" || fail "$fault is not linked"
         status=0

@@ -7,15 +7,14 @@
  * other byte of the room that the output buffer stands in. Buffers are at times too long, too short or empty. A key with
  * a difference is the last.
  */
-#define _DEFAULT_SOURCE
 #include <inttypes.h>
 #include <stdio.h>
 #include <stdlib.h>
 #include <string.h>
-#include <time.h>
 
 #include "barkmottle.h"
 #include "drawn.h"
+#include "options.h"
 #include "other.h"
 
 enum { MARGIN = 64, CHAIN = MOST_BLOCKS * BLOCK, ROOM = MARGIN + CHAIN + MARGIN };
@@ -184,30 +183,12 @@ static void compare_key(size_t length, size_t number)
     compare_steps();
 }
 
-static uint64_t number_of(const char *text)
-{
-    char *end;
-    uint64_t number = strtoull(text, &end, 0);
-    if (*text < '0' || *text > '9' || *end != '\0') {
-        fprintf(stderr, "usage: compare [--keys N] [--seed S], N and S numbers\n");
-        exit(2);
-    }
-    return number;
-}
-
 int main(int argument_count, char **arguments)
 {
-    size_t lengths[MOST_KEY + 1], kinds = 0, keys = 5000;
-    uint64_t seed = (uint64_t)time(NULL);
-    for (int i = 1; i < argument_count; i += 2) {
-        const char *value = i + 1 < argument_count ? arguments[i + 1] : "";
-        if (strcmp(arguments[i], "--keys") == 0)
-            keys = number_of(value);
-        else if (strcmp(arguments[i], "--seed") == 0)
-            seed = number_of(value);
-        else
-            number_of("");
-    }
+    struct option options[] = {{"--keys", 5000, 0}, {"--seed", 1, 0}};
+    size_t lengths[MOST_KEY + 1], kinds = 0;
+    read_options(argument_count, arguments, options, 2);
+    const uint64_t keys = options[0].number, seed = options[1].number;
     state = seed;
     printf("compare: with %s %s, seed %" PRIu64 "\n", other.name, other.version(), seed);
     if (other.left_out != NULL)
@@ -215,7 +196,7 @@ int main(int argument_count, char **arguments)
     for (size_t length = LEAST_KEY; length <= MOST_KEY; length++)
         if (other.made_for(length))
             lengths[kinds++] = length;
-    for (size_t i = 0; i < keys && count.different == 0; i++)
+    for (uint64_t i = 0; i < keys && count.different == 0; i++)
         compare_key(lengths[i % kinds], i / kinds);
     printf("compare: %lu keys of %zu lengths from %zu to %zu, %lu of them refused; %lu sets of round keys, %lu single "
            "blocks, %lu blocks in %lu chains, %lu boxes and transforms; %lu calls, %lu different\n",

@@ -27,40 +27,24 @@ int rarely(struct decisions *d)
     return below(d, 16) == 15;
 }
 
-uint64_t splitmix(uint64_t *state)
-{
-    uint64_t mixed = *state += 0x9e3779b97f4a7c15u;
-    mixed = (mixed ^ mixed >> 30) * 0xbf58476d1ce4e5b9u;
-    mixed = (mixed ^ mixed >> 27) * 0x94d049bb133111ebu;
-    return mixed ^ mixed >> 31;
-}
-
 uint64_t noise_seed(struct decisions *d)
 {
     const uint64_t high = below(d, 65536);
     return high << 16 | below(d, 65536);
 }
 
-static void fill_with_noise(uint64_t seed, uint8_t *bytes, size_t length)
-{
-    uint64_t word = 0;
-    for (size_t i = 0; i < length; i++) {
-        word = i % 8 == 0 ? splitmix(&seed) : word >> 8;
-        bytes[i] = (uint8_t)word;
-    }
-}
-
 /* Contents: zeros, ones, bytes of the case itself, or noise. */
 void fill(struct decisions *d, uint8_t *bytes, size_t length)
 {
     const size_t kind = below(d, 16);
+    uint64_t noise = kind <= 4 ? 0 : noise_seed(d);
     if (kind <= 1)
         memset(bytes, kind == 0 ? 0 : 0xff, length);
     else if (kind <= 4)
         for (size_t i = 0; i < length; i++)
             bytes[i] = (uint8_t)next_byte(d);
     else
-        fill_with_noise(noise_seed(d), bytes, length);
+        draw_bytes(&noise, bytes, length);
 }
 
 /* Sixteen bytes of noise; in most, offset and kind are at a boundary or within, so that half are readable. */
@@ -68,8 +52,8 @@ void make_event(uint64_t *noise, uint8_t *event)
 {
     static const uint8_t offsets[] = {0, 56, 208, 57, 207, 255, 1, 4, 252, 127, 128, 0, 20, 230, 56, 208};
     static const uint8_t kinds[] = {0, 1, 31, 32, 63, 64, 95, 96, 127, 128, 255, 5, 40, 70, 100, 0};
-    uint64_t words[2] = {splitmix(noise), splitmix(noise)}, choice = splitmix(noise);
-    memcpy(event, words, BLOCK);
+    const uint64_t choice = drawn(noise);
+    draw_bytes(noise, event, BLOCK);
     if (choice % 8 < 6)
         event[4] = offsets[choice >> 8 & 15];
     if (choice % 8 < 7)

@@ -6,6 +6,7 @@
 #ifndef HOSTILE_H
 #define HOSTILE_H
 
+#include "drawn.h"
 #include "exports.h"
 
 /* Twelve numbers, 0 to 11; and the most bytes that are handed over as a key, a block or an event, or as a frame. */
@@ -20,7 +21,6 @@ struct decisions {
 
 size_t below(struct decisions *d, size_t limit);
 int rarely(struct decisions *d);
-uint64_t splitmix(uint64_t *state);
 uint64_t noise_seed(struct decisions *d);
 void fill(struct decisions *d, uint8_t *bytes, size_t length);
 void make_event(uint64_t *noise, uint8_t *event);

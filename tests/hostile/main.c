@@ -1,7 +1,7 @@
 /*
  * The fuzz target, and a program that feeds it from a seed: hostile [--calls N] [--seed S] [--case K].
  * It ends with status 1 at the first fault, and says which it is. With --case, that case alone is run.
- * hostile --self-test shows that the checks of damaged logs can fail; tests/wrong/log/ shows it of the others.
+ * hostile --self-test shows that the checks of damaged logs can fail; tests/wrong/hostile/ shows it of the others.
  * Compiled with -DLIBFUZZER, the target is libFuzzer's to feed.
  */
 #define _GNU_SOURCE
@@ -13,6 +13,7 @@
 #include <unistd.h>
 
 #include "hostile.h"
+#include "options.h"
 
 enum { CALLS_OF_A_CASE = 2000, LONGEST_CASE = 400 };
 
@@ -45,10 +46,9 @@ int LLVMFuzzerTestOneInput(const uint8_t *data, size_t size)
 static void run_case(unsigned long number)
 {
     static uint8_t bytes[LONGEST_CASE];
-    uint64_t state = tally.seed, apart = splitmix(&state) + number;
-    const size_t size = splitmix(&apart) % (LONGEST_CASE + 1);
-    for (size_t i = 0; i < size; i++)
-        bytes[i] = (uint8_t)splitmix(&apart);
+    uint64_t state = tally.seed, apart = drawn(&state) + number;
+    const size_t size = drawn(&apart) % (LONGEST_CASE + 1);
+    draw_bytes(&apart, bytes, size);
     tally.cases = number;
     LLVMFuzzerTestOneInput(bytes, size);
 }
@@ -133,44 +133,24 @@ static int self_test(void)
     return found == 7 ? 0 : 1;
 }
 
-/* Reads --NAME NUMBER; anything else ends the program. */
-static void read_words(int count, char **words, const char *const *names, uint64_t *numbers, int *given)
-{
-    for (int i = 1; i < count; i += 2) {
-        char *end = words[i];
-        int which = 0;
-        while (which < 3 && strcmp(words[i], names[which]) != 0)
-            which++;
-        if (which < 3 && i + 1 < count)
-            numbers[which] = strtoull(words[i + 1], &end, 10);
-        if (which == 3 || i + 1 == count || end == words[i + 1] || *end != '\0') {
-            fprintf(stderr, "usage: hostile [--calls N] [--seed S] [--case K]\n");
-            exit(2);
-        }
-        given[which] = 1;
-    }
-}
-
 int main(int count, char **words)
 {
-    static const char *const names[] = {"--calls", "--seed", "--case"};
-    uint64_t numbers[] = {300000, 1, 0};
-    int given[3] = {0};
+    struct option options[] = {{"--calls", 300000, 0}, {"--seed", 1, 0}, {"--case", 0, 0}};
     unsigned long cases = 0;
     if (count == 2 && strcmp(words[1], "--self-test") == 0) {
         prepare();
         return self_test();
     }
-    read_words(count, words, names, numbers, given);
-    tally.seed = numbers[1];
+    read_options(count, words, options, 3);
+    tally.seed = options[1].number;
     printf("hostile: seed %" PRIu64 "\n", tally.seed);
     fflush(stdout);
     prepare();
-    if (given[2]) {
-        run_case((unsigned long)numbers[2]);
+    if (options[2].given) {
+        run_case((unsigned long)options[2].number);
         cases = 1;
     } else {
-        while (tally.calls < numbers[0])
+        while (tally.calls < options[0].number)
             run_case(cases++);
     }
     say_all(cases);
