@@ -3,7 +3,8 @@
  *
  * Each slice that is lent stands between two inaccessible pages. Each call is made flush against the page behind
  * and again flush against the page before, and with a null pointer for each slice that is empty. What is only read
- * is lent by pages that cannot be written. Output buffers are compared whole.
+ * is lent by pages that cannot be written. Output buffers are compared whole. Slices of more than 4 GiB, of which only
+ * the beginning can be touched, show that no length is cut to 32 bits.
  *
  * exports --self-test shows that each of these checks can fail.
  */
@@ -28,6 +29,7 @@ struct call {
     int64_t want;
     const uint8_t *answer;
     size_t length;
+    size_t longer[ROOMS];                 /* by how much a slice is longer than the bytes that are there */
     int64_t (*fake)(const struct lent *); /* called in place of the export, by the self-test */
 };
 
@@ -62,12 +64,12 @@ static void touched(int signal, siginfo_t *about, void *context)
 static void lend(const struct call *call, enum pass pass, struct lent *lent)
 {
     for (int i = 0; i < 3; i++) {
-        lent->in_length[i] = call->in[i].length;
+        lent->in_length[i] = call->in[i].length + call->longer[i];
         lent->in[i] = lend_bytes(i, call->in[i].bytes, call->in[i].length, pass);
     }
     for (size_t at = 0; at < room_size; at++)
         rooms[OUT_ROOM].own[at] = filler(at);
-    lent->out_length = call->out;
+    lent->out_length = call->out + call->longer[OUT_ROOM];
     lent->out = lend_room(OUT_ROOM, call->out, pass);
     memcpy(lent->number, call->number, sizeof lent->number);
 }
@@ -99,6 +101,41 @@ static void run(const struct call *call, enum pass pass)
               "an input that is kept", 0, 1);
 }
 
+/* What an input gives that is longer by 2^32 than one that is taken. */
+static int64_t too_long(enum export export, int input)
+{
+    static const uint32_t of_chain[] = {1, 4, 3};
+    if (exports[export].numbers == 0)
+        return 0; /* a field of a refusal */
+    if (export <= e_new_from_slice)
+        return 1;
+    if (export == e_encrypt_chain || export == e_decrypt_chain)
+        return of_chain[input];
+    if (export == e_open_frame || export == e_frame_start)
+        return 6;
+    if (export == e_read_window || export == e_search)
+        return input == 0 ? 1 : 6;
+    return export <= e_linear_transform_inv || export == e_read_event || input == 1 ? 2 : 1;
+}
+
+/* Of a call that is done, or that gives a field other than 0, each slice in turn is made longer: an input is refused,
+ * and a longer buffer gets the same answer. */
+static void lengthen(const struct call *done)
+{
+    for (int i = 0; i < exports[done->export].inputs; i++) {
+        struct call call = *done;
+        call.longer[i] = long_by;
+        call.want = too_long(done->export, i);
+        call.length = 0;
+        run(&call, BEHIND);
+    }
+    if (exports[done->export].writes) {
+        struct call call = *done;
+        call.longer[OUT_ROOM] = long_by - call.out; /* its low 32 bits are 0 */
+        run(&call, BEHIND);
+    }
+}
+
 static void expect(const struct call *call)
 {
     unsigned nulls = 0;
@@ -110,6 +147,8 @@ static void expect(const struct call *call)
     run(call, BEFORE);
     if (nulls != 0)
         run(call, NULLS);
+    if (call->fake == NULL && (call->want == 0) == (exports[call->export].numbers != 0))
+        lengthen(call);
     seen_nulls[call->export] |= nulls;
     if (exports[call->export].numbers != 0 && call->want < 32)
         seen_numbers[call->export] |= N(call->want);
@@ -484,6 +523,31 @@ static void test_frames(void)
     }
 }
 
+/* Frames of about 4 GiB, of which the header is there: with length fields that agree, and that do in 32 bits alone. */
+static void test_long_frames(void)
+{
+    static const struct {
+        size_t length;
+        uint32_t field;
+        uint8_t version;
+        uint32_t number;
+    } rows[] = {
+        {((size_t)1 << 32) - 11, 0xfffffff1, 1, 4}, {((size_t)1 << 32) - 11, 0xfffffff1, 2, 7},
+        {((size_t)1 << 32) + 3, 0xffffffff, 1, 2},  {((size_t)1 << 32) + 3, 0xfffffffe, 1, 6},
+        {((size_t)1 << 32) + 4, 0, 1, 6},           {((size_t)1 << 32) + 21, 17, 1, 6},
+    };
+    const struct slice all = S(frame, HEADER), key = S(noise, 16);
+    for (size_t i = 0; i < sizeof rows / sizeof *rows; i++) {
+        const size_t more = rows[i].length - HEADER;
+        const uint32_t number = rows[i].number;
+        head(HEADER, rows[i].field, rows[i].version);
+        EXPECT(.export = e_open_frame, .in = {all}, .longer = {more}, .want = number);
+        EXPECT(.export = e_frame_start, .in = {all}, .longer = {more}, .out = 16, .want = number);
+        EXPECT(.export = e_read_window, .in = {key, all}, .longer = {0, more}, .want = number);
+        EXPECT(.export = e_search, .in = {key, all}, .longer = {0, more}, .want = number);
+    }
+}
+
 /* Makes a frame that opens, of these texts, under the first bytes of the noise as key. */
 static struct slice seal(const uint8_t *texts, size_t blocks, size_t key_length)
 {
@@ -709,6 +773,7 @@ int main(int count, char **words)
     test_blocks();
     test_chains();
     test_frames();
+    test_long_frames();
     test_windows();
     test_events();
     test_searches();

@@ -1,5 +1,5 @@
 /*
- * Rooms: accessible bytes between two inaccessible pages. Each has two views of the same memory: one is lent to the
+ * Rooms: accessible bytes between inaccessible ones, a page before them and more than 4 GiB behind them. Each has two views of the same memory: one is lent to the
  * exports, through the other the test fills and compares it. The view that is lent of a room for input cannot be
  * written, so nothing has to be protected anew for a call.
  */
@@ -18,6 +18,8 @@
 #include <unistd.h>
 
 enum { ROOMS = 4, OUT_ROOM = 3 };
+/* What the low 32 bits of a length do not show. */
+static const size_t long_by = (size_t)1 << 32;
 static struct {
     uint8_t *lent, *own;
 } rooms[ROOMS];
@@ -43,7 +45,8 @@ static void make_rooms(void)
             perror("rooms: memfd_create");
             exit(2);
         }
-        uint8_t *all = map(NULL, room_size + 2 * page_size, PROT_NONE, MAP_PRIVATE | MAP_ANONYMOUS, -1);
+        const size_t reserved = page_size + room_size + long_by + page_size;
+        uint8_t *all = map(NULL, reserved, PROT_NONE, MAP_PRIVATE | MAP_ANONYMOUS | MAP_NORESERVE, -1);
         int how = i == OUT_ROOM ? PROT_READ | PROT_WRITE : PROT_READ;
         rooms[i].lent = map(all + page_size, room_size, how, MAP_SHARED | MAP_FIXED, file);
         rooms[i].own = map(NULL, room_size, PROT_READ | PROT_WRITE, MAP_SHARED, file);
@@ -63,14 +66,14 @@ static void catch_touches(void (*handler)(int, siginfo_t *, void *))
 enum pass { BEHIND, BEFORE, NULLS };
 static const char *const pass_names[] = {"flush behind", "flush before", "null where empty"};
 
-/* Where a slice of this length stands in any room. */
+/* Where a slice of this length stands in any room. One that is longer than its room begins where the room does. */
 static size_t place_in_room(size_t length, enum pass pass)
 {
-    if (length > room_size) {
+    if (length > room_size + long_by) {
         fprintf(stderr, "rooms: a slice of %zu bytes has no room\n", length);
         exit(2);
     }
-    return pass == BEFORE ? 0 : room_size - length;
+    return pass == BEFORE || length > room_size ? 0 : room_size - length;
 }
 
 /* What a call is handed for a slice of this length. */

@@ -71,6 +71,16 @@ build exports tests/exports.c -std=c11 -O2
 "$out/exports" --self-test || fail "the tests of the exports do not find every fault"
 "$out/exports" >"$out/exports.out" || fail "an export answers something else: $(cat "$out/exports.out")"
 cat "$out/exports.out"
+# An archive with a wrong object in it must be found.
+found=0
+for fault in tests/wrong/exports/*.c; do
+    tests/wrong/build.sh "$archive" "$fault" "$out/wrong.a" || fail "$fault is not built"
+    (archive=$out/wrong.a && build exports_wrong tests/exports.c -std=c11 -O2) || exit 1
+    if "$out/exports_wrong" >"$out/wrong.out" 2>&1; then fail "the tests of the exports do not find $fault"; fi
+    grep -q '^wrong: ' "$out/wrong.out" || fail "the tests of the exports end for another reason: $(cat "$out/wrong.out")"
+    found=$((found + 1))
+done
+echo "exports: each of $found wrong objects is found"
 # The sanitizers watch the test program, valgrind what the archive does as well.
 echo 'int main(void) { return 0; }' >"$out/empty.c"
 # shellcheck disable=SC2086

@@ -104,7 +104,7 @@ size_t near_blocks(struct decisions *d)
     }
 }
 
-/* Lengths about an answer's, for the buffer that it goes to. */
+/* Lengths about an answer's, for the buffer that it goes to; one is too short in its low 32 bits. */
 size_t near_answer(struct decisions *d, size_t answer)
 {
     switch (below(d, 12)) {
@@ -118,6 +118,8 @@ size_t near_answer(struct decisions *d, size_t answer)
         return answer + below(d, 1024);
     case 4:
         return answer / 2;
+    case 5:
+        return answer / 2 + ((size_t)1 << 32);
     default:
         return answer;
     }
