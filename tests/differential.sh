@@ -53,28 +53,27 @@ if [ $crate = yes ]; then
 fi
 
 # An archive with a wrong object in it must be found.
+if ! command -v objcopy >/dev/null 2>&1; then
+    echo "differential: no wrong objects are tried, as objcopy is not on this machine"
+    exit 0
+fi
 found=0
-# finds NAME: the program that was built with the wrong archive does not end well.
-finds() {
-    if "$out/wrong" --keys 10000 --seed 1 >"$out/$1.log" 2>&1; then fail "the comparison does not find $1"; fi
-    grep -q '^different: ' "$out/$1.log" || fail "the comparison of $1 ends for another reason: $(cat "$out/$1.log")"
-}
 for fault in tests/wrong/listed/*.c; do
-    name=$(basename "$fault" .c)
-    tests/wrong/build.sh "$archive" "$fault" "$out/$name.a"
-    build make_list_wrong tests/oracle/make_list.c tests/compare/archive.c "$out/$name.a"
-    if lists make_list_wrong; then fail "the list does not find $name"; fi
+    tests/wrong/build.sh "$archive" "$fault" "$out/wrong.a" || fail "$fault is not built"
+    build make_list_wrong tests/oracle/make_list.c tests/compare/archive.c "$out/wrong.a"
+    if lists make_list_wrong; then fail "the list does not find $fault"; fi
     found=$((found + 1))
 done
 echo "differential: the list finds each of $found wrong objects"
-if [ $crate = yes ]; then
-    found=0
-    for fault in tests/wrong/listed/*.c tests/wrong/compared/*.c; do
-        name=$(basename "$fault" .c)
-        tests/wrong/build.sh "$archive" "$fault" "$out/$name.a"
-        build wrong tests/compare/compare.c tests/oracle/crate.c "$out/$name.a" "$out/oracle/liboracle.a"
-        finds "$name"
-        found=$((found + 1))
-    done
-    echo "differential: the comparison finds each of $found wrong objects"
-fi
+if [ $crate = no ]; then exit 0; fi
+found=0
+for fault in tests/wrong/listed/*.c tests/wrong/compared/*.c; do
+    tests/wrong/build.sh "$archive" "$fault" "$out/wrong.a" || fail "$fault is not built"
+    build compare_wrong tests/compare/compare.c tests/oracle/crate.c "$out/wrong.a" "$out/oracle/liboracle.a"
+    if "$out/compare_wrong" --keys 10000 --seed 1 >"$out/wrong.out" 2>&1; then
+        fail "the comparison does not find $fault"
+    fi
+    grep -q '^different: ' "$out/wrong.out" || fail "the comparison ends for another reason: $(cat "$out/wrong.out")"
+    found=$((found + 1))
+done
+echo "differential: the comparison finds each of $found wrong objects"

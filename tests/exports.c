@@ -491,15 +491,18 @@ static void refused(size_t length, uint32_t number)
     searched(S(noise, 15), all, 0, 1, 0, 0, &no_fields);
 }
 
+/* A frame's length, its length field, its version, and the number of opening it. */
+struct header_row {
+    size_t length;
+    uint32_t field;
+    uint8_t version;
+    uint32_t number;
+};
+
 static void test_frames(void)
 {
-    /* length, length field, version, number: the earlier fault wins. */
-    static const struct {
-        size_t length;
-        uint32_t field;
-        uint8_t version;
-        uint32_t number;
-    } rows[] = {
+    /* The earlier fault wins. */
+    static const struct header_row rows[] = {
         {0, 0, 0, 6},           {1, 0, 0, 6},           {3, 0, 0, 6},           {4, 0, 0, 6},
         {5, 1, 1, 6},           {20, 16, 1, 6},         {20, 17, 1, 6},         {20, 16, 2, 6},
         {21, 16, 1, 6},         {21, 18, 1, 6},         {21, 16, 2, 6},         {21, 21, 1, 6},
@@ -526,12 +529,7 @@ static void test_frames(void)
 /* Frames of about 4 GiB, of which the header is there: with length fields that agree, and that do in 32 bits alone. */
 static void test_long_frames(void)
 {
-    static const struct {
-        size_t length;
-        uint32_t field;
-        uint8_t version;
-        uint32_t number;
-    } rows[] = {
+    static const struct header_row rows[] = {
         {((size_t)1 << 32) - 11, 0xfffffff1, 1, 4}, {((size_t)1 << 32) - 11, 0xfffffff1, 2, 7},
         {((size_t)1 << 32) + 3, 0xffffffff, 1, 2},  {((size_t)1 << 32) + 3, 0xfffffffe, 1, 6},
         {((size_t)1 << 32) + 4, 0, 1, 6},           {((size_t)1 << 32) + 21, 17, 1, 6},
