@@ -1,6 +1,6 @@
 # make: a first look. make test: the gate. make lib, make gatelog, make install: what people use.
 
-.PHONY: first lib gatelog log vectors differential peers hostile test check fmt install uninstall clean
+.PHONY: first lib gatelog log vectors differential peers hostile flipped test check fmt install uninstall clean
 
 PREFIX = /usr/local
 DESTDIR =
@@ -70,6 +70,12 @@ hostile: export RUNS := $(or $(RUNS),1000000)
 hostile: export SEED := $(or $(SEED),$(shell date +%s))
 hostile: lib
 	tests/hostile.sh $(ARCHIVE)
+
+# How much these tests would notice: make flipped [FLIPS=N] [SEED=S] flips single bits of the library's machine code.
+flipped: export FLIPS := $(or $(FLIPS),500)
+flipped: export SEED := $(or $(SEED),$(shell date +%s))
+flipped: lib
+	tests/flipped.sh $(ARCHIVE)
 
 # Everything is proved from nothing, every wrong edit is tried, every program is run.
 # rt's closing line, 'N passed, 0 failed', is the last line of the gate: nothing may follow it.
