@@ -1,4 +1,5 @@
 # make: a first look. make test: the gate. make lib, make gatelog, make install: what people use.
+# make differential, make peers, make hostile, make flipped: the library held against the outside.
 
 .PHONY: first lib gatelog log vectors differential peers hostile flipped test check fmt install uninstall clean
 
