@@ -1,7 +1,7 @@
 #!/bin/sh
-# How much the tests from C would notice: tests/flipped.sh [ARCHIVE]. Of FLIPS copies of the archive, each with one bit of its
-# machine code or constants flipped, it counts those that the tests of the exports, hostile input and the comparison with
-# the Rust crate find. Some flips change nothing that can be seen, so there is no count that it must reach.
+# How much the tests from C would notice: tests/flipped.sh [ARCHIVE]. Of FLIPS copies of the archive, each with one bit
+# of its machine code or constants flipped, it counts those that the tests of the exports, hostile input and the
+# comparison with the Rust crate find. Some flips change nothing that can be seen, so there is no count to reach.
 set -eu
 cd "$(dirname "$0")/.."
 archive=${1:-target/staticlib/libbarkmottle.a}
@@ -9,7 +9,7 @@ flips=${FLIPS:-100}
 seed=${SEED:-1}
 cc=${CC:-cc}
 strict="-Wall -Wextra -Werror -std=c11 -O2 -Iinclude -Itests -Itests/compare"
-out=target/c/flipped
+out=target/c/flips
 
 fail() {
     echo "flipped: $1"
@@ -29,7 +29,8 @@ compile() {
 notices() {
     folder=$out/$1
     shift
-    $cc "$folder"/*.o "$out/flipped.a" ${oracle:+"$oracle"} -lpthread -ldl -lm -o "$folder/program" || fail "it is not linked"
+    $cc "$folder"/*.o "$out/flipped.a" ${oracle:+"$oracle"} -lpthread -ldl -lm -o "$folder/program" ||
+        fail "it is not linked"
     ! timeout 20 "$folder/program" "$@" >"$folder/output" 2>&1
 }
 
@@ -73,5 +74,5 @@ while [ "$number" -lt "$flips" ]; do
     fi
     number=$((number + 1))
 done
-echo "flipped: of $flips archives with one bit flipped $by_exports are found by the tests of the exports, $by_hostile more by" \
-    "hostile input, $by_compare more by the comparison, $not_found by none"
+echo "flipped: of $flips archives with one bit flipped $by_exports are found by the tests of the exports," \
+    "$by_hostile more by hostile input, $by_compare more by the comparison, $not_found by none"

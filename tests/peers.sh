@@ -1,6 +1,6 @@
 #!/bin/sh
-# Holds the archive against other libraries that have Serpent: tests/peers.sh [ARCHIVE]. KEYS and SEED say how many keys
-# and which. A library that is missing is installed by apt-get, if that may; if not, it is said and left out.
+# Holds the archive against other libraries that have Serpent: tests/peers.sh [ARCHIVE]. KEYS and SEED say how many
+# keys and which. A library that is missing is installed by apt-get, if that may; if not, it is said and left out.
 set -eu
 cd "$(dirname "$0")/.."
 archive=${1:-target/staticlib/libbarkmottle.a}
@@ -51,8 +51,11 @@ hold() {
         dpkg-query -W -f 'peers: package ${Package} ${Version}\n' "$package" 2>/dev/null || true
     fi
     "$out/$name" --keys "$keys" --seed "$seed" || fail "the archive and $name differ"
-    if "$out/$name.wrong" --keys 1000 --seed 1 >"$out/$name.log" 2>&1; then fail "$name does not find a wrong object"; fi
-    grep -q '^different: a block enciphered' "$out/$name.log" || fail "$name ends for another reason: $(cat "$out/$name.log")"
+    if "$out/$name.wrong" --keys 1000 --seed 1 >"$out/$name.log" 2>&1; then
+        fail "$name does not find a wrong object"
+    fi
+    grep -q '^different: a block enciphered' "$out/$name.log" ||
+        fail "$name ends for another reason: $(cat "$out/$name.log")"
     compared=$((compared + 1))
 }
 

@@ -1,7 +1,7 @@
 /*
- * Rooms: accessible bytes between inaccessible ones, a page before them and more than 4 GiB behind them. Each has two views of the same memory: one is lent to the
- * exports, through the other the test fills and compares it. The view that is lent of a room for input cannot be
- * written, so nothing has to be protected anew for a call.
+ * Rooms: accessible bytes between inaccessible ones, a page before them and more than 4 GiB behind them. Each has two
+ * views of the same memory: one is lent to the exports, through the other the test fills and compares it. The view that
+ * is lent of a room for input cannot be written, so nothing has to be protected anew for a call.
  */
 #ifndef ROOMS_H
 #define ROOMS_H

@@ -3,13 +3,12 @@
  *
  * For each key: its round keys, one block each way, one chain each way, and where the other shows them a box and the
  * linear transform, each with its inverse. Keys have every length from 15 to 33 that the other is made for, and are
- * all zero, all one, a single bit at every place, then drawn. Compared are the number, the bytes of the answer and every
- * other byte of the room that the output buffer stands in. Buffers are at times too long, too short or empty. A key with
- * a difference is the last.
+ * all zero, all one, a single bit at every place, then drawn. Compared are the number, the bytes of the answer and
+ * every other byte of the room that the output buffer stands in. Buffers are at times too long, too short or empty. A
+ * key with a difference is the last.
  */
 #include <inttypes.h>
 #include <stdio.h>
-#include <stdlib.h>
 #include <string.h>
 
 #include "barkmottle.h"

@@ -71,7 +71,8 @@ static const char *left_out(void)
     for (size_t length = 17; length < 32; length++)
         if (length % 4 != 0 && !is_cut(length))
             return "other lengths than 16, 24 and 32";
-    return "other lengths than 16, 24 and 32: those between it takes, and cuts to whole words in silence, as 17 bytes to 16";
+    return "other lengths than 16, 24 and 32: those between it takes, and cuts to whole words in silence, as 17 bytes "
+           "to 16";
 }
 
 const struct other other = {

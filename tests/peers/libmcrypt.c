@@ -40,7 +40,10 @@ static void run(MCRYPT with, int (*work)(MCRYPT, void *, int), const uint8_t *st
 }
 
 /* Single blocks have no start block; it is handed one and does not look at it. */
-static void encrypt_block(const uint8_t *block, uint8_t *out) { run(single, mcrypt_generic, block, block, BLOCK, out); }
+static void encrypt_block(const uint8_t *block, uint8_t *out)
+{
+    run(single, mcrypt_generic, block, block, BLOCK, out);
+}
 
 static void decrypt_block(const uint8_t *block, uint8_t *out)
 {
@@ -57,7 +60,7 @@ static void decrypt_chain(const uint8_t *start, const uint8_t *cipher, size_t bl
     run(chain, mdecrypt_generic, start, cipher, blocks * BLOCK, out);
 }
 
-/* Whether a key of this length gives the block of the key with zeros behind it up to the next length it is made for. */
+/* Whether a key of this length gives the block of the key with zeros behind it, up to the next length it is for. */
 static int is_filled(size_t length)
 {
     static const uint8_t zeros[BLOCK];
@@ -76,7 +79,8 @@ static const char *left_out(void)
     for (size_t length = 17; length < 32; length++)
         if (!made_for(length) && !is_filled(length))
             return "other lengths than 16, 24 and 32";
-    return "other lengths than 16, 24 and 32: those between it takes, and fills with zeros to 24 or 32 bytes in silence";
+    return "other lengths than 16, 24 and 32: those between it takes, and fills with zeros to 24 or 32 bytes in "
+           "silence";
 }
 
 const struct other other = {
