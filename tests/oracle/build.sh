@@ -1,16 +1,17 @@
 #!/bin/sh
 # Builds the Rust crate for the tests to call: tests/oracle/build.sh OUT writes OUT/liboracle.a. The crate's three
-# files are compiled where they stand, unchanged: in the folder that SERPENT_SOURCE names. Where they or the
-# compiler are missing it says so in one line, and its status is 3.
+# files are compiled where they stand, unchanged: in the folder that SERPENT_SOURCE names, or in its src/. Where they
+# or the compiler are missing it says so in one line, and its status is 3.
 set -eu
 here=$(cd "$(dirname "$0")" && pwd)
-source=${SERPENT_SOURCE:-$here/../../../shared/docs/src/src}
+source=${SERPENT_SOURCE:-$here/../../../shared/docs/src}
 out=$1
 missing() {
     echo "oracle: $1, so the crate is not run; the list of its answers stands in for it"
     exit 3
 }
 
+test -f "$source/lib.rs" || source=$source/src
 for file in lib.rs bitslice.rs unroll.rs; do
     test -f "$source/$file" || missing "the Rust crate's $file is not at hand (SERPENT_SOURCE names its folder)"
 done
