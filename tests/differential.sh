@@ -20,11 +20,12 @@ build() {
     ${CC:-cc} -Wall -Wextra -Werror -std=c11 -O2 -Iinclude -Itests -Itests/compare "$@" -lpthread -ldl -lm \
         -o "$out/$program" || fail "$program is not built"
 }
-# lists PROGRAM: whether it makes the list that stands in the repository.
+# lists PROGRAM: whether it makes the list that stands in the repository. It must end well, whatever the list.
 lists() {
     rm -rf "$out/list"
     mkdir -p "$out/list"
-    "$out/$1" "$out/list" 2>/dev/null && for file in "$out/list"/*; do
+    "$out/$1" "$out/list" || fail "$1 makes no list"
+    for file in "$out/list"/*; do
         cmp -s "$file" "$list/$(basename "$file")" || return 1
     done
 }

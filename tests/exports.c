@@ -3,7 +3,8 @@
  *
  * Each slice that is lent stands between two inaccessible pages. Each call is made flush against the page behind
  * and again flush against the page before, and with a null pointer for each slice that is empty. What is only read
- * is lent by pages that cannot be written, so that a write to it ends the program. Output buffers are compared whole.
+ * is lent by pages that cannot be written, so that a write to it ends the program, and is compared too, in case it was
+ * reached by another way. Output buffers are compared whole.
  * Slices of more than 4 GiB, of which only the beginning can be touched, show that no length is cut to 32 bits.
  *
  * exports --self-test and tests/wrong/exports/ show that these checks can fail.
@@ -96,6 +97,9 @@ static void run(const struct call *call, enum pass pass)
     check(got == call->want, "returned", got, call->want);
     size_t at = first_wrong(call, pass);
     check(at == room_size, "first wrong place of the output's room", (long long)at, (long long)room_size);
+    for (int i = 0; i < exports[call->export].inputs; i++)
+        check(call->in[i].length == 0 || memcmp(lent.in[i], call->in[i].bytes, call->in[i].length) == 0,
+              "an input that is kept", 0, 1);
 }
 
 /* What an input gives that is longer by 2^32 than one that is taken. */
@@ -702,6 +706,11 @@ static volatile uint8_t sink;
 static int64_t reads_behind(const struct lent *lent) { return sink = lent->in[0][lent->in_length[0]], 0; }
 static int64_t reads_before(const struct lent *lent) { return sink = *(lent->in[0] - 1), 0; }
 static int64_t writes_input(const struct lent *lent) { return lent->in[0][3] ^= 1, 0; }
+static int64_t changes_input(const struct lent *lent)
+{
+    /* by the view that is the test's own */
+    return rooms[0].own[lent->in[0] - rooms[0].lent] ^= 1, 0;
+}
 static int64_t writes_behind(const struct lent *lent) { return lent->out[lent->out_length] = 1, 0; }
 static int64_t writes_before(const struct lent *lent) { return *(lent->out - 1) = 1, 0; }
 static int64_t refuses_and_writes(const struct lent *lent) { return lent->out[0] ^= 1, 2; }
@@ -744,6 +753,8 @@ static int self_test(void)
     call = right, call.fake = clears_the_rest;
     tried++, found += counted_wrong(&call);
     call.fake = refuses_and_writes, call.want = 2, call.length = 0;
+    tried++, found += counted_wrong(&call);
+    call = right, call.fake = changes_input, call.length = 0;
     tried++, found += counted_wrong(&call);
     for (size_t i = 0; i < sizeof fakes / sizeof *fakes; i++) {
         call = right, call.fake = fakes[i], call.length = 0;

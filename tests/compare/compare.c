@@ -97,40 +97,48 @@ static void compare_round_keys(void)
     count.round_keys += held("round keys", barkmottle_new_from_slice(KEY, OUT), answer, ROUND_KEYS);
 }
 
-static void compare_block(void)
+/* One way of a block: what the other makes of it, and the export that must make the same. */
+static void compare_block(const char *what, other_block *of_other, __typeof__(barkmottle_encrypt_block) *of_archive,
+                          const uint8_t *block)
 {
-    uint8_t block[BLOCK], answer[BLOCK];
-    draw_bytes(&state, block, BLOCK);
+    uint8_t answer[BLOCK];
     if (refusal == 0)
-        other.encrypt_block(block, answer);
+        of_other(block, answer);
     make_room(BLOCK);
-    count.single += held("a block enciphered", barkmottle_encrypt_block(KEY, block, BLOCK, OUT), answer, BLOCK);
-    if (refusal == 0)
-        other.decrypt_block(block, answer);
-    make_room(BLOCK);
-    count.single += held("a block deciphered", barkmottle_decrypt_block(KEY, block, BLOCK, OUT), answer, BLOCK);
+    count.single += held(what, of_archive(KEY, block, BLOCK, OUT), answer, BLOCK);
 }
 
-static void compare_chain(size_t blocks)
+static void compare_blocks(void)
 {
-    static uint8_t text[CHAIN], answer[CHAIN];
+    uint8_t block[BLOCK];
+    draw_bytes(&state, block, BLOCK);
+    compare_block("a block enciphered", other.encrypt_block, barkmottle_encrypt_block, block);
+    compare_block("a block deciphered", other.decrypt_block, barkmottle_decrypt_block, block);
+}
+
+/* One way of a chain. */
+static void compare_chain(const char *what, other_chain *of_other, __typeof__(barkmottle_encrypt_chain) *of_archive,
+                          const uint8_t *start, const uint8_t *text, size_t blocks)
+{
+    static uint8_t answer[CHAIN];
     const size_t size = blocks * BLOCK;
+    if (refusal == 0)
+        of_other(start, text, blocks, answer);
+    make_room(size);
+    if (held(what, of_archive(KEY, text, size, start, BLOCK, OUT), answer, size)) {
+        count.chains++;
+        count.chained += blocks;
+    }
+}
+
+static void compare_chains(size_t blocks)
+{
+    static uint8_t text[CHAIN];
     uint8_t start[BLOCK];
-    int done;
     draw_bytes(&state, start, BLOCK);
-    draw_bytes(&state, text, size);
-    if (refusal == 0)
-        other.encrypt_chain(start, text, blocks, answer);
-    make_room(size);
-    done = held("a chain enciphered", barkmottle_encrypt_chain(KEY, text, size, start, BLOCK, OUT), answer, size);
-    count.chains += (unsigned)done;
-    count.chained += done ? blocks : 0;
-    if (refusal == 0)
-        other.decrypt_chain(start, text, blocks, answer);
-    make_room(size);
-    done = held("a chain deciphered", barkmottle_decrypt_chain(KEY, text, size, start, BLOCK, OUT), answer, size);
-    count.chains += (unsigned)done;
-    count.chained += done ? blocks : 0;
+    draw_bytes(&state, text, blocks * BLOCK);
+    compare_chain("a chain enciphered", other.encrypt_chain, barkmottle_encrypt_chain, start, text, blocks);
+    compare_chain("a chain deciphered", other.decrypt_chain, barkmottle_decrypt_chain, start, text, blocks);
 }
 
 /* A box and the linear transform, which have no key. */
@@ -177,8 +185,8 @@ static void compare_key(size_t length, size_t number)
     count.keys++;
     count.refused += refusal != 0;
     compare_round_keys();
-    compare_block();
-    compare_chain(number % (MOST_BLOCKS + 1));
+    compare_blocks();
+    compare_chains(number % (MOST_BLOCKS + 1));
     compare_steps();
 }
 

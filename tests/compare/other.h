@@ -35,6 +35,12 @@ struct other {
 
 extern const struct other other;
 
+/* The three key lengths that most libraries are made for: 128, 192 and 256 bits. */
+static inline int is_usual(size_t key_length)
+{
+    return key_length == 16 || key_length == 24 || key_length == 32;
+}
+
 #ifdef __cplusplus
 }
 #endif

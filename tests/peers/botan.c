@@ -21,8 +21,6 @@ static const char *version(void)
     return botan_version_string();
 }
 
-static int made_for(size_t length) { return length == 16 || length == 24 || length == 32; }
-
 static uint32_t set_key(const uint8_t *key, size_t length)
 {
     done(botan_block_cipher_set_key(single, key, length));
@@ -67,7 +65,7 @@ static const char *left_out(void)
 {
     static const uint8_t key[32];
     for (size_t length = LEAST_KEY; length < 32; length++)
-        if (!made_for(length) && botan_block_cipher_set_key(single, key, length) == 0)
+        if (!is_usual(length) && botan_block_cipher_set_key(single, key, length) == 0)
             return "other lengths than 16, 24 and 32";
     return "other lengths than 16, 24 and 32, which it refuses";
 }
@@ -75,7 +73,7 @@ static const char *left_out(void)
 const struct other other = {
     .name = "botan",
     .version = version,
-    .made_for = made_for,
+    .made_for = is_usual,
     .left_out = left_out,
     .set_key = set_key,
     .encrypt_block = encrypt_block,

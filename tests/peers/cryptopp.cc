@@ -26,8 +26,6 @@ const char *version()
     return text;
 }
 
-int made_for(size_t length) { return length == 16 || length == 24 || length == 32; }
-
 uint32_t set_key(const uint8_t *key, size_t length)
 {
     encryption.SetKey(key, length);
@@ -69,7 +67,7 @@ bool takes(size_t length)
 const char *left_out()
 {
     for (size_t length = LEAST_KEY; length < 32; length++)
-        if (!made_for(length) && takes(length))
+        if (!is_usual(length) && takes(length))
             return "other lengths than 16, 24 and 32";
     return "other lengths than 16, 24 and 32, which it refuses";
 }
@@ -77,6 +75,6 @@ const char *left_out()
 } // namespace
 
 extern "C" const struct other other = {
-    "crypto++",    version,       made_for,      left_out, set_key, round_keys, encrypt_block,
+    "crypto++",    version,       is_usual,      left_out, set_key, round_keys, encrypt_block,
     decrypt_block, encrypt_chain, decrypt_chain, nullptr,  nullptr, nullptr,    nullptr,
 };

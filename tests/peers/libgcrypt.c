@@ -21,8 +21,6 @@ static const char *version(void)
     return text;
 }
 
-static int made_for(size_t length) { return length == 16 || length == 24 || length == 32; }
-
 static uint32_t set_key(const uint8_t *key, size_t length)
 {
     done(gcry_cipher_setkey(single, key, length));
@@ -78,7 +76,7 @@ static const char *left_out(void)
 const struct other other = {
     .name = "libgcrypt",
     .version = version,
-    .made_for = made_for,
+    .made_for = is_usual,
     .left_out = left_out,
     .set_key = set_key,
     .encrypt_block = encrypt_block,

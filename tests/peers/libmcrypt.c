@@ -18,8 +18,6 @@ static const char *version(void)
     return LIBMCRYPT_VERSION;
 }
 
-static int made_for(size_t length) { return length == 16 || length == 24 || length == 32; }
-
 static uint32_t set_key(const uint8_t *bytes, size_t length)
 {
     memcpy(key, bytes, length);
@@ -77,7 +75,7 @@ static int is_filled(size_t length)
 static const char *left_out(void)
 {
     for (size_t length = 17; length < 32; length++)
-        if (!made_for(length) && !is_filled(length))
+        if (!is_usual(length) && !is_filled(length))
             return "other lengths than 16, 24 and 32";
     return "other lengths than 16, 24 and 32: those between it takes, and fills with zeros to 24 or 32 bytes in "
            "silence";
@@ -86,7 +84,7 @@ static const char *left_out(void)
 const struct other other = {
     .name = "libmcrypt",
     .version = version,
-    .made_for = made_for,
+    .made_for = is_usual,
     .left_out = left_out,
     .set_key = set_key,
     .encrypt_block = encrypt_block,
