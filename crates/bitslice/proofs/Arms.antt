@@ -29,6 +29,9 @@ unfolding _when_
 always i = simp (le-ltb 7 (i % 8) (omega arith))
 
 -- what an arm of the match gives is what its index names
+pub in-box : (tables : ℕ → List ℕ) (i : ℕ) (words : List ℕ) {k : ℕ} {r : List ℕ} → i % 8 ≡ k → r ≡ boxOn (tables k) words → r ≡ boxOn (tables (i % 8)) words
+in-box tables i words e p = rw e p
+
 pub in-arm : (tables : ℕ → List ℕ) (i : ℕ) (words : List ℕ) {k : ℕ} {r : List ℕ} {b : Boxed} → i % 8 ≡ k → r ≡ boxOn (tables k) words → b ≡ chosen 0 r → b ≡ chosen (boxNumber i) (boxOn (tables (i % 8)) words)
 in-arm tables i words e p q = rw (always i, e) (q ∙ ap (chosen 0) p)
 

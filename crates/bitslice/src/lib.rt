@@ -5,7 +5,7 @@ use words::rotate_left;
 use words::rotate_right;
 ghost use mathlib.Core.Path.{_≡_};
 ghost use lib.ListN.{replicate};
-ghost use Rattle.bitslice.specs.Boxes.{boxOn, box, inverse};
+ghost use Rattle.bitslice.specs.Boxes.{boxOn, box, inverse, boxWords, boxInvWords};
 ghost use Rattle.bitslice.specs.Chosen.{chosen, applied, appliedInv};
 ghost use Rattle.bitslice.specs.Linear.{linearTransform, linearTransformInv};
 
@@ -100,6 +100,39 @@ pub fn apply_s_inv(index: usize, words: Words) -> Boxed
         6 => done(sbox_d6(words)),
         7 => done(sbox_d7(words)),
         _ => no_box(),
+    }
+}
+
+// Box i, reduced by 8, without a number, and its inverse. The loop over the rounds is the one caller of each: with a second it would not be compiled into that loop.
+pub fn round_box(i: usize, words: Words) -> Words
+    ensures { λ r. ⌜ r ≡ boxWords i words ⌝ }
+{
+    match i % 8 {
+        0 => sbox_e0(words),
+        1 => sbox_e1(words),
+        2 => sbox_e2(words),
+        3 => sbox_e3(words),
+        4 => sbox_e4(words),
+        5 => sbox_e5(words),
+        6 => sbox_e6(words),
+        7 => sbox_e7(words),
+        _ => words,
+    }
+}
+
+pub fn round_box_inv(i: usize, words: Words) -> Words
+    ensures { λ r. ⌜ r ≡ boxInvWords i words ⌝ }
+{
+    match i % 8 {
+        0 => sbox_d0(words),
+        1 => sbox_d1(words),
+        2 => sbox_d2(words),
+        3 => sbox_d3(words),
+        4 => sbox_d4(words),
+        5 => sbox_d5(words),
+        6 => sbox_d6(words),
+        7 => sbox_d7(words),
+        _ => words,
     }
 }
 

@@ -2,6 +2,7 @@ pub mod Xors
 pub mod Blocks
 pub mod Links
 pub mod Buffers
+pub mod Turns
 pub mod Numbers
 pub mod Chains
 pub mod Lengths

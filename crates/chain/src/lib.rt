@@ -5,12 +5,16 @@ use answers::START_LENGTH;
 use answers::TEXT_LENGTH;
 use answers::TOO_MANY;
 use serpent::Serpent;
+use serpent::fast::decrypt_block;
+use serpent::fast::decrypt_sixteen;
+use serpent::fast::encrypt_block;
 use words::blocks::block_at;
 use words::blocks::put_block;
 ghost use mathlib.Core.Path.{_≡_};
-ghost use Prim.Native.Nat.{_≤_};
+ghost use Prim.Native.Nat.{_+_, _*_, _≤_};
 ghost use lib.ListN.{length};
 ghost use Rattle.answers.specs.Answers.{front, left};
+ghost use Rattle.words.specs.Blocks.{blockAt, putAt};
 ghost use Rattle.serpent.specs.Block.{encryptBytes, decryptBytes};
 ghost use Rattle.chain.specs.Chain.{xor};
 ghost use Rattle.chain.specs.Slices.{enciphered, deciphered, blocksNumber, chainNumber, encryptedChain, decryptedChain};
@@ -32,13 +36,13 @@ fn xor_block(a: [u8; 16], b: [u8; 16]) -> [u8; 16]
 pub fn encrypt_link(round_keys: &[u32; 132], text: [u8; 16], before: [u8; 16]) -> [u8; 16]
     ensures { λ r. ⌜ r ≡ encryptBytes (now («round_keys» .entry)) (xor text before) ⌝ }
 {
-    Serpent::encrypt_block(round_keys, xor_block(text, before))
+    encrypt_block(round_keys, xor_block(text, before))
 }
 
 pub fn decrypt_link(round_keys: &[u32; 132], cipher: [u8; 16], before: [u8; 16]) -> [u8; 16]
     ensures { λ r. ⌜ r ≡ xor (decryptBytes (now («round_keys» .entry)) cipher) before ⌝ }
 {
-    xor_block(Serpent::decrypt_block(round_keys, cipher), before)
+    xor_block(decrypt_block(round_keys, cipher), before)
 }
 
 fn encrypt_all(round_keys: &[u32; 132], text: &[u8], start: [u8; 16], out: &mut [u8])
@@ -54,16 +58,41 @@ fn encrypt_all(round_keys: &[u32; 132], text: &[u8], start: [u8; 16], out: &mut 
     }
 }
 
+// Puts the text at place i: `deciphered` XOR the cipher block before it. It answers the cipher block at place i, which the next text is chained to.
+fn put_text(
+    deciphered: [u8; 16],
+    before: [u8; 16],
+    cipher: &[u8],
+    i: usize,
+    out: &mut [u8],
+) -> [u8; 16]
+    requires { ⌜ i * 16 + 16 ≤ length (now cipher) ⌝ }
+    ensures next { λ r. ⌜ r ≡ blockAt (now (cipher .entry)) (i * 16) ⌝ }
+    ensures put { λ _. ⌜ now (out .exit) ≡ putAt (now (out .entry)) (i * 16) (xor deciphered before) ⌝ }
+{
+    let text = xor_block(deciphered, before);
+    put_block(text, out, i * 16);
+    block_at(cipher, i * 16)
+}
+
+// Sixteen blocks at a time, and those that are left one at a time.
 fn decrypt_all(round_keys: &[u32; 132], cipher: &[u8], start: [u8; 16], out: &mut [u8])
     requires { ⌜ length (now cipher) ≤ length (now out) ⌝ }
     ensures { λ _. ⌜ now (out .exit) ≡ front (deciphered (now («round_keys» .entry)) start (now (cipher .entry))) (now (out .entry)) ⌝ }
 {
+    let blocks = cipher.len() / 16;
     let mut before = start;
-    for i in 0..cipher.len() / 16 {
-        let block = block_at(cipher, i * 16);
-        let text = decrypt_link(round_keys, block, before);
-        put_block(text, out, i * 16);
-        before = block;
+    for s in 0..blocks / 16 {
+        let sixteen = decrypt_sixteen(round_keys, &cipher[s * 256..s * 256 + 256]);
+        for j in 0..16 {
+            let next = put_text(block_at(&sixteen, j * 16), before, cipher, s * 16 + j, out);
+            before = next;
+        }
+    }
+    for i in blocks / 16 * 16..blocks {
+        let text = decrypt_block(round_keys, block_at(cipher, i * 16));
+        let next = put_text(text, before, cipher, i, out);
+        before = next;
     }
 }
 

@@ -12,6 +12,7 @@ use Rattle.words.specs.Sized.{Sized}
 use Rattle.words.proofs.Lists.{filled, sized-append, four-all}
 use Rattle.bitslice.proofs.Boxes.{box-words}
 use Rattle.serpent.specs.Words.{stored}
+use Rattle.serpent.specs.Turns.{KeysUpTo}
 use Rattle.serpent.specs.Schedule.{prekey, prekeys, roundKey, roundKeys, schedule}
 
 -- a prekey looks at the eight words before it
@@ -37,6 +38,10 @@ filled-four l {xs} n m w e b f h =
 pub round-keys-more : (w k : List ℕ) (i : ℕ) (rk : List ℕ) → 4 * i + 4 ≤ length k → length rk ≡ 4 → take (4 * i) k ≡ roundKeys w i → rk ≡ roundKey w i → take (4 * (i + 1)) (stored k (4 * i) rk) ≡ roundKeys w (i + 1)
 unfolding roundKeys
 round-keys-more w k i rk b f h e = filled-four k (4 * i) (4 * (i + 1)) rk (omega arith) b f h ∙ rw (add-one, e)
+
+-- round keys up to a place that is written in another way
+pub up-to : {w k : List ℕ} {i j : ℕ} → i ≡ j → KeysUpTo w k i → KeysUpTo w k j
+up-to e h = rw e at h
 
 -- ---- n round keys are 4n words, whatever the prekeys: each is what a box gives
 round-keys-sized : (w : List ℕ) (n : ℕ) → Sized (4 * n) (2 ^ 32) (roundKeys w n)

@@ -4,3 +4,5 @@ pub mod Block
 pub mod Keys
 pub mod Slices
 pub mod Parts
+pub mod Turns
+pub mod Lanes

@@ -1,5 +1,8 @@
 // The Serpent block cipher (src/lib.rs of the Rust): key setup, and one block each way.
+pub mod fast;
+mod lanes;
 pub mod parts;
+mod rounds;
 pub mod slices;
 
 use answers::DONE;
@@ -9,19 +12,22 @@ use bitslice::apply_s;
 use bitslice::apply_s_inv;
 use bitslice::linear_transform;
 use bitslice::linear_transform_inv;
+use bitslice::round_box;
+use bitslice::round_box_inv;
 use words::from_le_bytes;
 use words::le_byte;
 use words::rotate_left;
 ghost use mathlib.Core.Path.{_≡_};
-ghost use Prim.Native.Nat.{_+_, _≤_, _<_};
+ghost use Prim.Native.Nat.{_+_, _*_, _%_, _≤_, _<_};
 ghost use lib.ListN.{length};
 ghost use Rattle.words.specs.Sized.{four};
 ghost use Rattle.words.specs.Bytes.{wordAt, wordsOf, bytesOf};
 ghost use Rattle.bitslice.specs.Boxes.{boxWords, boxInvWords};
 ghost use Rattle.serpent.specs.Words.{xorWords, stored};
-ghost use Rattle.serpent.specs.Schedule.{padded, prekey, prekeys, roundKeys};
+ghost use Rattle.serpent.specs.Schedule.{padded, prekey, prekeys, boxOfKey, roundKeys};
 ghost use Rattle.serpent.specs.Block.{mix, encryptBytes, decryptBytes};
 ghost use Rattle.serpent.specs.Keys.{keyNumber, keyed};
+ghost use Rattle.serpent.specs.Turns.{KeysUpTo};
 
 // The 33 round keys, one after the other.
 pub struct Serpent {
@@ -85,7 +91,7 @@ fn write_words(src: Words) -> [u8; 16]
     dst
 }
 
-// The number that apply_s answers is always DONE: the index is reduced by 8.
+// A box by its number: the one that apply_s answers is always DONE, as the index is reduced by 8.
 fn s_box(index: usize, words: Words) -> Words
     ensures { λ r. ⌜ r ≡ boxWords index words ⌝ }
 {
@@ -143,16 +149,40 @@ fn make_prekeys(key: [u8; 32]) -> [u32; 140]
     words
 }
 
+// Round key i, by the box at `index`, into its four places.
+fn put_round_key(words: &[u32; 140], i: usize, index: usize, k: &mut [u32; 132])
+    requires { ⌜ (i ≤ 32) × (index % 8 ≡ boxOfKey i % 8) × KeysUpTo (now words) (now k) i ⌝ }
+    ensures { λ _. ⌜ KeysUpTo (now (words .entry)) (now (k .exit)) (i + 1) ⌝ }
+{
+    let s = four_words(words, 4 * i + 8);
+    let output = s_box(index, s);
+    store_words(k, 4 * i, output);
+}
+
+// Round keys i to i + 7, with their boxes written out.
+fn put_eight(words: &[u32; 140], t: usize, k: &mut [u32; 132])
+    requires { ⌜ (t < 4) × KeysUpTo (now words) (now k) (8 * t) ⌝ }
+    ensures { λ _. ⌜ KeysUpTo (now (words .entry)) (now (k .exit)) (8 * (t + 1)) ⌝ }
+{
+    put_round_key(words, 8 * t, 3, k);
+    put_round_key(words, 8 * t + 1, 2, k);
+    put_round_key(words, 8 * t + 2, 1, k);
+    put_round_key(words, 8 * t + 3, 0, k);
+    put_round_key(words, 8 * t + 4, 7, k);
+    put_round_key(words, 8 * t + 5, 6, k);
+    put_round_key(words, 8 * t + 6, 5, k);
+    put_round_key(words, 8 * t + 7, 4, k);
+}
+
 // The 33 round keys, from the prekeys.
 fn make_round_keys(words: &[u32; 140]) -> [u32; 132]
     ensures { λ r. ⌜ r ≡ roundKeys (now (words .entry)) 33 ⌝ }
 {
     let mut k = [0u32; 132];
-    for i in 0..Serpent::ROUNDS + 1 {
-        let s = four_words(words, 4 * i + 8);
-        let output = s_box((Serpent::ROUNDS + 3 - i) % Serpent::ROUNDS, s);
-        store_words(&mut k, 4 * i, output);
+    for t in 0..4 {
+        put_eight(words, t, &mut k);
     }
+    put_round_key(words, Serpent::ROUNDS, 3, &mut k);
     k
 }
 
@@ -212,7 +242,7 @@ impl Serpent {
         let mut b = read_words(block);
         for i in 0..Self::ROUNDS - 1 {
             let xb = mix_key(round_keys, i, b);
-            let s = s_box(i, xb);
+            let s = round_box(i, xb);
             let next = linear_transform(s);
             b = next;
         }
@@ -231,7 +261,7 @@ impl Serpent {
         for n in 0..Self::ROUNDS - 1 {
             let i = 30 - n;
             let s = linear_transform_inv(b);
-            let xb = s_box_inv(i, s);
+            let xb = round_box_inv(i, s);
             let next = mix_key(round_keys, i, xb);
             b = next;
         }

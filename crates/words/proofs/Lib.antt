@@ -6,3 +6,4 @@ pub mod Lists
 pub mod Bytes
 pub mod Places
 pub mod Inverse
+pub mod Filled

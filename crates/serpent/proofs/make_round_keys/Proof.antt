@@ -1,41 +1,41 @@
--- `serpent::make_round_keys` meets its contract: after i turns the first i round keys stand, four words each. Assumes nothing.
-use mathlib.Core.Path.{_≡_, _∙_, ap}
+-- `serpent::make_round_keys` meets its contract: after t turns the first 8t round keys stand, four words each. Assumes nothing.
+use mathlib.Core.Path.{_≡_, sym, refl, _∙_}
 use Prim.Native.Nat.{_-_, _*_, _≤_}
 use native.Mathlib.Omega.{arith}
 use borrow.Author.Needs.{needs}
-use lib.ListN.{length, take, length-set}
+use lib.ListN.{length}
 use lib.Seq.{take-all}
-use Rattle.bitslice.specs.Boxes.{boxWords}
 use Rattle.serpent.specs.Schedule.{roundKeys}
-use Rattle.serpent.proofs.Keys.{round-keys-more}
+use Rattle.serpent.specs.Turns.{KeysUpTo}
+use Rattle.serpent.proofs.Keys.{up-to}
 use Rattle.serpent.proofs.make_round_keys.Statement.{statement}
 use Rattle.serpent.proofs.make_round_keys.Tie as tie
 
 abbrev Inv-loop : tie.InvT-loop
-Inv-loop words k₀ i₀ k i = (i ≤ 33) × (length k ≡ 132) × (take (4 * i) k ≡ roundKeys words i)
+Inv-loop words k₀ t₀ k t = (t ≤ 4) × KeysUpTo words k (8 * t)
 
 abbrev μ-loop : tie.MeasureT-loop
-μ-loop words k₀ i₀ k i = 33 - i
+μ-loop words k₀ t₀ k t = 4 - t
 
 loop-holds : tie.Need-loop-holds Inv-loop μ-loop
 unfolding roundKeys
-loop-holds c = search needs
+loop-holds c = (search needs, record { size = refl; done = refl })
+
+put-eight-requires : tie.Need-put-eight-requires Inv-loop μ-loop
+put-eight-requires c κs = (omega arith, c .before .before .loop .inv .1)
 
 loop-again : tie.Need-loop-again Inv-loop μ-loop
-loop-again c =
-    let boxed = c .before .before in
-    let at = boxed .before .before .before .before .loop in (
-      omega arith,
-      rw (c .store-words .ensures) (simp length-set (at .inv .1)),
-      rw (c .store-words .ensures) (round-keys-more _ _ _ _ (omega arith) (boxed .s-box .ok .1 .0 .1) (at .inv .2) (boxed .s-box .ensures ∙ ap (boxWords _) (boxed .before .four-words .ensures))),
-    )
+loop-again c = (omega arith, c .put-eight .ensures)
+
+put-round-key-requires : tie.Need-put-round-key-requires Inv-loop μ-loop
+put-round-key-requires c κs = (search needs, refl, up-to (omega arith) (c .before .before .loop .inv .1))
 
 returns : tie.Need-returns Inv-loop μ-loop
 returns c =
-    let e : c .before .loop .i ≡ 33 = omega arith in
-    rw (e, take-all 132 (c .before .loop .k) (omega arith)) at (c .before .loop .inv .2)
+    let keys = c .put-round-key .ensures in
+    sym (take-all 132 _ (omega (arith, keys .size))) ∙ keys .done
 
 pub make-round-keys-spec : {M : Type 1} → statement M
 make-round-keys-spec =
     tie.close
-    (tie.spec Inv-loop μ-loop loop-holds (search needs) (search needs) (search needs) (search needs) (search needs) (search needs) (search needs) (search needs) (search needs) (search needs) loop-again returns)
+    (tie.spec Inv-loop μ-loop loop-holds put-eight-requires (search needs) (search needs) loop-again put-round-key-requires returns)

@@ -26,7 +26,7 @@ loop-again c =
     let f : 31 - (at .n + 1) ≡ 30 - at .n = omega arith in
     let h = rw e at (at .inv .1) in
     let undone : c .mix-key3 .result ≡ unround keys (30 - at .n) (at .b) =
-    c .mix-key3 .ensures ∙ ap (mix keys (30 - at .n)) (boxed .s-box-inv2 .ensures ∙ ap (boxInvWords (30 - at .n)) (turned .linear-transform-inv .ensures)) in
+    c .mix-key3 .ensures ∙ ap (mix keys (30 - at .n)) (boxed .round-box-inv .ensures ∙ ap (boxInvWords (30 - at .n)) (turned .linear-transform-inv .ensures)) in
     (omega arith, rw f (ap (unrounds keys (30 - at .n)) undone ∙ h))
 
 returns : tie.Need-returns Inv-loop μ-loop

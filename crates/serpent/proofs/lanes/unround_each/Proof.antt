@@ -1,0 +1,37 @@
+-- `lanes::unround_each` meets its contract: lanes below j are done. Assumes nothing.
+use mathlib.Core.Path.{_∙_}
+use Prim.Native.Nat.{_+_, _-_, _*_}
+use native.Mathlib.Omega.{arith}
+use borrow.Author.Needs.{needs}
+use Rattle.serpent.specs.Block.{unround}
+use Rattle.serpent.proofs.Sixteen.{Going, none-yet, next-lane, all-done}
+use Rattle.serpent.proofs.Unmixed.{undoes}
+use Rattle.serpent.proofs.lanes.unround_each.Statement.{statement}
+use Rattle.serpent.proofs.lanes.unround_each.Tie as tie
+
+abbrev Inv-loop : tie.InvT-loop
+Inv-loop keys t n w₀ k j₀ w j = Going (unround keys (8 * t + n)) w₀ w j
+
+abbrev μ-loop : tie.MeasureT-loop
+μ-loop keys t n w₀ k j₀ w j = 16 - j
+
+loop-holds : tie.Need-loop-holds Inv-loop μ-loop
+loop-holds c = none-yet _ _ (search needs)
+
+loop-again : tie.Need-loop-again Inv-loop μ-loop
+loop-again c =
+    let changed = c .before .before in
+    let read = changed .before in
+    let at-loop = read .before .before .before in
+    let keyed = at-loop .before in
+    let a = keyed .before .before .args in
+    next-lane _ _ _ _ (at-loop .loop .inv) (omega arith) (search needs) (read .lane .ensures)
+    (changed .unmixed .ensures ∙ undoes _ (a .t) (a .n) _ (keyed .four-words .ensures)) (c .put-lane .ensures)
+
+returns : tie.Need-returns Inv-loop μ-loop
+returns c = all-done _ (c .before .loop .inv) (omega arith)
+
+pub unround-each-spec : {M : Type 1} → statement M
+unround-each-spec =
+    tie.close
+    (tie.spec Inv-loop μ-loop (search needs) (search needs) (search needs) (search needs) loop-holds (search needs) (search needs) (search needs) (search needs) (search needs) loop-again returns)
