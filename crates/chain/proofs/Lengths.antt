@@ -1,17 +1,18 @@
 -- Each text and each cipher block of a chain is sixteen bytes, so a chain is as long as what it was made of.
 -- Assumes nothing.
 use mathlib.Core.Path.{_≡_, refl, sym, ap, ap₂, _∙_}
-use mathlib.Core.List.{List, [], _∷_}
-use Prim.Native.Nat.{ℕ, zero, suc, _+_, _*_, _/_, _%_, _≤_}
+use mathlib.Core.List.{List, [], _∷_, _++_}
+use Prim.Native.Nat.{ℕ, zero, suc, _+_, _*_, _/_, _%_, _≤_, _<_}
+use native.Mathlib.Nat.{le-of-suc-le-suc}
 use native.Mathlib.Omega.{arith}
-use lib.ListN.{length, take, drop, length-append, length-drop}
-use lib.Seq.{length-take-le}
+use lib.ListN.{length, take, drop, getD, length-append, length-drop}
+use lib.Seq.{take-at, drop-at, length-take-le}
 use Rattle.serpent.specs.Block.{encryptBytes, decryptBytes}
 use Rattle.serpent.proofs.OneBlock.{encrypted-sixteen, decrypted-sixteen}
 use Rattle.chain.specs.Chain.{xor, encipher, decipher, blocks, blocksOf, join}
 use Rattle.chain.specs.Slices.{enciphered, deciphered}
 use Rattle.chain.proofs.Xors.{length-xor}
-use Rattle.chain.proofs.Blocks.{over, length-blocks}
+use Rattle.chain.proofs.Blocks.{over, drop-over, length-blocks}
 use Rattle.chain.proofs.Links.{length-decipher}
 
 unfoldable pub Sixteens : List (List ℕ) → Type 0
@@ -22,6 +23,14 @@ pub length-sixteens : (bs : List (List ℕ)) → Sixteens bs → length (join bs
 unfolding join Sixteens
 length-sixteens [] h = refl
 length-sixteens (b ∷ bs) h = length-append b (join bs) ∙ ap₂ (λ (x y : ℕ). x + y) (h .0) (length-sixteens bs (h .1)) ∙ over (length bs)
+
+-- of blocks joined, the one at a place
+pub join-at : (bs : List (List ℕ)) → Sixteens bs → (j : ℕ) → j < length bs → take 16 (drop (j * 16) (join bs)) ≡ getD bs j []
+unfolding join Sixteens
+join-at [] h j l = absurd (omega arith)
+join-at (b ∷ bs) h zero l = take-at b (join bs) 16 (h .0)
+join-at (b ∷ bs) h (suc j) l =
+    ap (take 16) (sym (drop-over j (b ++ join bs)) ∙ ap (drop (j * 16)) (drop-at b (join bs) 16 (h .0))) ∙ join-at bs (h .1) j (le-of-suc-le-suc l)
 
 pub sixteens-take : (n : ℕ) (bs : List (List ℕ)) → Sixteens bs → Sixteens (take n bs)
 unfolding Sixteens
