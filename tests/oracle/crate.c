@@ -1,6 +1,4 @@
-/* The Rust crate as the one to hold against. Its chain is CBC over its blocks, as it has none itself. */
-#include <string.h>
-
+/* The Rust crate as the one to hold against. */
 #include "other.h"
 
 /* The crate's key record: 132 words. */
@@ -10,6 +8,10 @@ uint32_t oracle_new_from_slice(const uint8_t *key, size_t length, uint32_t *reco
 void oracle_round_keys(const uint32_t *record, uint8_t *out);
 void oracle_encrypt_block(const uint32_t *record, const uint8_t *block, uint8_t *out);
 void oracle_decrypt_block(const uint32_t *record, const uint8_t *block, uint8_t *out);
+void oracle_encrypt_chain(const uint32_t *record, const uint8_t *start, const uint8_t *text, size_t blocks,
+                          uint8_t *out);
+void oracle_decrypt_chain(const uint32_t *record, const uint8_t *start, const uint8_t *cipher, size_t blocks,
+                          uint8_t *out);
 other_box oracle_apply_s, oracle_apply_s_inv;
 other_block oracle_linear_transform, oracle_linear_transform_inv;
 
@@ -25,28 +27,14 @@ static void encrypt_block(const uint8_t *block, uint8_t *out) { oracle_encrypt_b
 
 static void decrypt_block(const uint8_t *block, uint8_t *out) { oracle_decrypt_block(record, block, out); }
 
-static void mix(const uint8_t *a, const uint8_t *b, uint8_t *out)
-{
-    for (size_t i = 0; i < BLOCK; i++)
-        out[i] = a[i] ^ b[i];
-}
-
 static void encrypt_chain(const uint8_t *start, const uint8_t *text, size_t blocks, uint8_t *out)
 {
-    for (size_t i = 0; i < blocks; i++) {
-        uint8_t mixed[BLOCK];
-        mix(text + i * BLOCK, i == 0 ? start : out + (i - 1) * BLOCK, mixed);
-        encrypt_block(mixed, out + i * BLOCK);
-    }
+    oracle_encrypt_chain(record, start, text, blocks, out);
 }
 
 static void decrypt_chain(const uint8_t *start, const uint8_t *cipher, size_t blocks, uint8_t *out)
 {
-    for (size_t i = 0; i < blocks; i++) {
-        uint8_t mixed[BLOCK];
-        decrypt_block(cipher + i * BLOCK, mixed);
-        mix(mixed, i == 0 ? start : cipher + (i - 1) * BLOCK, out + i * BLOCK);
-    }
+    oracle_decrypt_chain(record, start, cipher, blocks, out);
 }
 
 const struct other other = {

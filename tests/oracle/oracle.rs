@@ -40,6 +40,47 @@ pub extern "C" fn oracle_decrypt_block(record: &Serpent, block: &Block, out: &mu
     record.decrypt_block((block, out).into());
 }
 
+fn xor(a: &Block, b: &Block) -> Block {
+    core::array::from_fn(|i| a[i] ^ b[i])
+}
+
+/// CBC over the crate's blocks, as the crate has no chain itself. `text` and `out` are not null, and have `blocks` blocks each.
+#[unsafe(no_mangle)]
+pub unsafe extern "C" fn oracle_encrypt_chain(
+    record: &Serpent,
+    start: &Block,
+    text: *const Block,
+    blocks: usize,
+    out: *mut Block,
+) {
+    let text = unsafe { core::slice::from_raw_parts(text, blocks) };
+    let out = unsafe { core::slice::from_raw_parts_mut(out, blocks) };
+    let mut before = *start;
+    for (text, out) in text.iter().zip(out) {
+        record.encrypt_block((&xor(text, &before), &mut *out).into());
+        before = *out;
+    }
+}
+
+/// The same, deciphered.
+#[unsafe(no_mangle)]
+pub unsafe extern "C" fn oracle_decrypt_chain(
+    record: &Serpent,
+    start: &Block,
+    cipher: *const Block,
+    blocks: usize,
+    out: *mut Block,
+) {
+    let cipher = unsafe { core::slice::from_raw_parts(cipher, blocks) };
+    let out = unsafe { core::slice::from_raw_parts_mut(out, blocks) };
+    let mut before = start;
+    for (cipher, out) in cipher.iter().zip(out) {
+        record.decrypt_block((cipher, &mut *out).into());
+        *out = xor(out, before);
+        before = cipher;
+    }
+}
+
 fn words_of(block: &Block) -> Words {
     core::array::from_fn(|i| u32::from_le_bytes(block[4 * i..][..4].try_into().unwrap()))
 }
