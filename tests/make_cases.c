@@ -5,18 +5,11 @@
 #include <string.h>
 
 #include "barkmottle.h"
+#include "frames.h"
 
 #define MOST (BARKMOTTLE_FRAME_HEADER + 257 * BARKMOTTLE_BLOCK)
 
 static uint8_t key[16], start[BARKMOTTLE_BLOCK], frame[MOST];
-
-static void put_big_endian(uint8_t *at, uint32_t number)
-{
-    at[0] = (uint8_t)(number >> 24);
-    at[1] = (uint8_t)(number >> 16);
-    at[2] = (uint8_t)(number >> 8);
-    at[3] = (uint8_t)number;
-}
 
 static void write_file(const char *name, const void *bytes, size_t size)
 {
@@ -28,13 +21,6 @@ static void write_file(const char *name, const void *bytes, size_t size)
 }
 
 static void write_text(const char *name, const char *text) { write_file(name, text, strlen(text)); }
-
-struct event {
-    uint32_t wall;
-    uint8_t offset, kind;
-    uint16_t inverter;
-    uint32_t value, sequence;
-};
 
 /* The ends of every range, days about 29 February, and blocks that are unreadable: the first, two in a row, the last. */
 static const struct event spots[] = {
@@ -53,26 +39,6 @@ static const struct event spots[] = {
     {31622401, 0, 255, 1, 0, 4},
 };
 
-static void put_event(uint8_t *at, const struct event *event)
-{
-    put_big_endian(at, event->wall);
-    at[4] = event->offset;
-    at[5] = event->kind;
-    at[6] = (uint8_t)(event->inverter >> 8);
-    at[7] = (uint8_t)event->inverter;
-    put_big_endian(at + 8, event->value);
-    put_big_endian(at + 12, event->sequence);
-}
-
-/* A header that agrees with so many bytes behind it. */
-static size_t put_header(size_t bytes)
-{
-    put_big_endian(frame, (uint32_t)(17 + bytes));
-    frame[4] = 1;
-    memcpy(frame + 5, start, sizeof start);
-    return BARKMOTTLE_FRAME_HEADER + bytes;
-}
-
 static void write_frame(const char *name, const struct event *events, size_t count)
 {
     static uint8_t text[256 * BARKMOTTLE_BLOCK];
@@ -82,7 +48,7 @@ static void write_frame(const char *name, const struct event *events, size_t cou
     if (barkmottle_encrypt_chain(key, sizeof key, text, size, start, sizeof start, frame + BARKMOTTLE_FRAME_HEADER,
                                  size) != BARKMOTTLE_DONE)
         exit(1);
-    write_file(name, frame, put_header(size));
+    write_file(name, frame, put_header(frame, start, size));
 }
 
 static void write_frames(void)
@@ -96,12 +62,12 @@ static void write_frames(void)
                                  (uint32_t)(i * i), 1000u + (uint32_t)i};
     write_frame("full.frame", full, 256);
     /* Those that opening refuses: 4, 2, 7, 6, 6, 6. */
-    write_file("many.frame", frame, put_header(257 * BARKMOTTLE_BLOCK));
-    write_file("ragged.frame", frame, put_header(17));
-    size = put_header(16);
+    write_file("many.frame", frame, put_header(frame, start, 257 * BARKMOTTLE_BLOCK));
+    write_file("ragged.frame", frame, put_header(frame, start, 17));
+    size = put_header(frame, start, 16);
     frame[4] = 2;
     write_file("version.frame", frame, size);
-    size = put_header(32);
+    size = put_header(frame, start, 32);
     write_file("cut.frame", frame, size - 1);
     write_file("short.frame", frame, 20);
     write_file("empty.frame", frame, 0);
