@@ -14,6 +14,7 @@ extern "C" {
 
 enum { LEAST_KEY = 15, MOST_KEY = 33, BLOCK = 16, ROUND_KEYS = 528, MOST_BLOCKS = 256 };
 
+typedef uint32_t other_key(const uint8_t *key, size_t length);
 typedef void other_block(const uint8_t *block, uint8_t *out);
 typedef void other_box(size_t index, const uint8_t *words, uint8_t *out);
 typedef void other_chain(const uint8_t *start, const uint8_t *text, size_t blocks, uint8_t *out);
@@ -25,7 +26,9 @@ struct other {
     int (*made_for)(size_t key_length);
     const char *(*left_out)(void);
     /* Keeps the key for the calls below and returns 0, or returns the number of a refusal. */
-    uint32_t (*set_key)(const uint8_t *key, size_t length);
+    other_key *set_key;
+    /* The same for one way of a chain alone; null where set_key sets up no more than that. */
+    other_key *set_encrypting, *set_decrypting;
     void (*round_keys)(uint8_t *out);
     other_block *encrypt_block, *decrypt_block;
     other_chain *encrypt_chain, *decrypt_chain;

@@ -21,12 +21,22 @@ static const char *version(void)
     return botan_version_string();
 }
 
+static uint32_t set_encrypting(const uint8_t *key, size_t length)
+{
+    done(botan_cipher_set_key(encrypting, key, length));
+    return 0;
+}
+
+static uint32_t set_decrypting(const uint8_t *key, size_t length)
+{
+    done(botan_cipher_set_key(decrypting, key, length));
+    return 0;
+}
+
 static uint32_t set_key(const uint8_t *key, size_t length)
 {
     done(botan_block_cipher_set_key(single, key, length));
-    done(botan_cipher_set_key(encrypting, key, length));
-    done(botan_cipher_set_key(decrypting, key, length));
-    return 0;
+    return set_encrypting(key, length) + set_decrypting(key, length);
 }
 
 static void encrypt_block(const uint8_t *block, uint8_t *out)
@@ -76,6 +86,8 @@ const struct other other = {
     .made_for = is_usual,
     .left_out = left_out,
     .set_key = set_key,
+    .set_encrypting = set_encrypting,
+    .set_decrypting = set_decrypting,
     .encrypt_block = encrypt_block,
     .decrypt_block = decrypt_block,
     .encrypt_chain = encrypt_chain,

@@ -26,11 +26,21 @@ const char *version()
     return text;
 }
 
-uint32_t set_key(const uint8_t *key, size_t length)
+uint32_t set_encrypting(const uint8_t *key, size_t length)
 {
     encryption.SetKey(key, length);
+    return 0;
+}
+
+uint32_t set_decrypting(const uint8_t *key, size_t length)
+{
     decryption.SetKey(key, length);
     return 0;
+}
+
+uint32_t set_key(const uint8_t *key, size_t length)
+{
+    return set_encrypting(key, length) + set_decrypting(key, length);
 }
 
 void round_keys(uint8_t *out)
@@ -75,6 +85,6 @@ const char *left_out()
 } // namespace
 
 extern "C" const struct other other = {
-    "crypto++",    version,       is_usual,      left_out, set_key, round_keys, encrypt_block,
-    decrypt_block, encrypt_chain, decrypt_chain, nullptr,  nullptr, nullptr,    nullptr,
+    "crypto++",    version,       is_usual,      left_out,      set_key, set_encrypting, set_decrypting, round_keys,
+    encrypt_block, decrypt_block, encrypt_chain, decrypt_chain, nullptr, nullptr,        nullptr,        nullptr,
 };

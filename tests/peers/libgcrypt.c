@@ -21,11 +21,16 @@ static const char *version(void)
     return text;
 }
 
+static uint32_t set_chain_key(const uint8_t *key, size_t length)
+{
+    done(gcry_cipher_setkey(chain, key, length));
+    return 0;
+}
+
 static uint32_t set_key(const uint8_t *key, size_t length)
 {
     done(gcry_cipher_setkey(single, key, length));
-    done(gcry_cipher_setkey(chain, key, length));
-    return 0;
+    return set_chain_key(key, length);
 }
 
 static void encrypt_block(const uint8_t *block, uint8_t *out)
@@ -79,6 +84,8 @@ const struct other other = {
     .made_for = is_usual,
     .left_out = left_out,
     .set_key = set_key,
+    .set_encrypting = set_chain_key,
+    .set_decrypting = set_chain_key,
     .encrypt_block = encrypt_block,
     .decrypt_block = decrypt_block,
     .encrypt_chain = encrypt_chain,
