@@ -1,12 +1,13 @@
 # make: a first look. make test: the gate. make lib, make gatelog, make install: what people use.
-# make differential, make peers, make hostile, make flipped: the library held against the outside.
+# make differential, make peers, make hostile, make flipped: the library held against the outside. make bench: its speed.
 
-.PHONY: first lib gatelog log vectors differential peers hostile flipped test check fmt install uninstall clean
+.PHONY: first lib gatelog log vectors differential peers hostile flipped bench test check fmt install uninstall clean
 
 PREFIX = /usr/local
 DESTDIR =
 VERSION = 0.1.0
 ARCHIVE = target/staticlib/libbarkmottle.a
+TIMED = target/staticlib/libtimed.a
 GATELOG = target/gatelog
 
 # The kit's own part in C, for programs that open files.
@@ -77,6 +78,16 @@ flipped: export FLIPS := $(or $(FLIPS),500)
 flipped: export SEED := $(or $(SEED),$(shell date +%s))
 flipped: lib
 	tests/flipped.sh $(ARCHIVE)
+
+# Speed beside the Rust crate and the other libraries that are installed: make bench [SAMPLES=N] [RUNS=N] [SERPENT_SOURCE=FOLDER].
+bench: export SAMPLES := $(or $(SAMPLES),101)
+bench: export RUNS := $(or $(RUNS),2)
+bench: lib $(TIMED)
+	bench/run.sh $(ARCHIVE) $(TIMED)
+
+# What the bench calls under round keys.
+$(TIMED): $(SOURCES)
+	rt staticlib timed
 
 # Everything is proved from nothing, every wrong edit is tried, every program is run.
 # rt's closing line, 'N passed, 0 failed', is the last line of the gate: nothing may follow it.
