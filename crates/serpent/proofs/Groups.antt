@@ -5,7 +5,7 @@ use mathlib.Core.Bool.{cond}
 use mathlib.Core.List.{List}
 use Prim.Native.Nat.{ℕ, zero, suc, _+_, _-_, _*_, _≤_, _<_}
 use native.Mathlib.Decide.{decLt}
-use native.Mathlib.Nat.{add-zero, add-suc}
+use native.Mathlib.Nat.{add-zero, add-suc, add-assoc}
 use native.Mathlib.Omega.{arith}
 use borrow.Author.Tests.{eq-eqb, ne-eqb}
 use lib.Dec.{eqb}
@@ -22,6 +22,17 @@ module _ (ks : List ℕ) where
   unfolding unrounds unroundsFrom
   unrounds-join m zero b = rw add-zero
   unrounds-join m (suc n) b = rw add-suc (unrounds-join m n (unround ks (m + n) b))
+
+  -- two rounds undone, and more of them below others
+  pub two : (i : ℕ) (b : List ℕ) → unround ks i (unround ks (i + 1) b) ≡ unroundsFrom ks i 2 b
+  unfolding unroundsFrom
+  two i b = ap (λ (k : ℕ). unround ks k (unround ks (i + 1) b)) (sym (add-zero i))
+
+  pub unrounds-below : (i m n : ℕ) (b : List ℕ) → unroundsFrom ks i m (unroundsFrom ks (i + m) n b) ≡ unroundsFrom ks i (m + n) b
+  unfolding unroundsFrom
+  unrounds-below i m zero b = rw add-zero
+  unrounds-below i m (suc n) b =
+      rw add-suc (unrounds-below i m n (unround ks (i + m + n) b) ∙ ap (λ (k : ℕ). unroundsFrom ks i (m + n) (unround ks k b)) (add-assoc i m n))
 
   -- ---- enciphering: what t turns have made of b
   abbrev pub made : ℕ → List ℕ → List ℕ

@@ -79,10 +79,6 @@ next-lane f {w} {o} {j} x y o' g l n p q r = record {
 pub all-done : (f : List ℕ → List ℕ) {w o : List ℕ} {j : ℕ} → Going f w o j → 16 ≤ j → Lanes f w o
 all-done f g h = record { size = g .size; each = λ i l. g .done i (omega arith) }
 
--- ---- one function on each lane, and then another
-pub then-lanes : {f h : List ℕ → List ℕ} {w v r : List ℕ} → Lanes f w v → Lanes h v r → Lanes (λ x. h (f x)) w r
-then-lanes {h = h} p q = record { size = q .size; each = λ j l. q .each j l ∙ ap h (p .each j l) }
-
 -- ---- lanes loaded from the front
 pub load-lane : (bytes : List ℕ) {o : List ℕ} {j : ℕ} (y o' : List ℕ) → Loaded bytes o j → j < 16 → length y ≡ 4
     → y ≡ wordsOf (blockAt bytes (j * 16)) 4 → o' ≡ putLane o j y → Loaded bytes o' (j + 1)

@@ -55,55 +55,102 @@ pub fn store(w: &[u32; 64]) -> [u8; 256]
     out
 }
 
-// Round 8 t + n undone on each lane.
-fn unround_each(keys: &[u32; 132], t: usize, n: usize, w: &mut [u32; 64])
-    requires { ⌜ (t < 4) × (n < 8) × (length (now w) ≡ 64) ⌝ }
-    ensures { λ _. ⌜ Lanes (unround (now (keys .entry)) (8 * t + n)) (now (w .entry)) (now (w .exit)) ⌝ }
-{
-    let k = four_words(keys, 4 * (8 * t + n));
-    for j in 0usize..16 {
-        let x = lane(w, j);
-        let y = unmixed(n, k, x);
-        put_lane(w, j, y);
-    }
-}
+// Two rounds at a time, since taking a lane up and putting it down costs too. Their boxes are written out: chosen by a parameter they would not be compiled into the loop.
 
-// Round 31 undone on each lane.
-fn unlast_each(keys: &[u32; 132], w: &mut [u32; 64])
-    requires { ⌜ length (now w) ≡ 64 ⌝ }
-    ensures { λ _. ⌜ Lanes (unlast (now (keys .entry))) (now (w .entry)) (now (w .exit)) ⌝ }
-{
-    let k = four_words(keys, 124);
-    let after = four_words(keys, 128);
-    for j in 0usize..16 {
-        let x = lane(w, j);
-        let y = unmixed_last(k, after, x);
-        put_lane(w, j, y);
-    }
-}
-
-// Rounds 8 t + 6 to 8 t undone on each lane.
-fn unseven_each(keys: &[u32; 132], t: usize, w: &mut [u32; 64])
+// Rounds 8 t + 7 and 8 t + 6 undone on each lane.
+fn undo_7_6(keys: &[u32; 132], t: usize, w: &mut [u32; 64])
     requires { ⌜ (t < 4) × (length (now w) ≡ 64) ⌝ }
-    ensures { λ _. ⌜ Lanes (unroundsFrom (now (keys .entry)) (8 * t) 7) (now (w .entry)) (now (w .exit)) ⌝ }
+    ensures { λ _. ⌜ Lanes (unroundsFrom (now (keys .entry)) (8 * t + 6) 2) (now (w .entry)) (now (w .exit)) ⌝ }
 {
-    unround_each(keys, t, 6, w);
-    unround_each(keys, t, 5, w);
-    unround_each(keys, t, 4, w);
-    unround_each(keys, t, 3, w);
-    unround_each(keys, t, 2, w);
-    unround_each(keys, t, 1, w);
-    unround_each(keys, t, 0, w);
+    let upper = four_words(keys, 4 * (8 * t + 7));
+    let lower = four_words(keys, 4 * (8 * t + 6));
+    for j in 0usize..16 {
+        let x = lane(w, j);
+        let y = unmixed(7, upper, x);
+        let z = unmixed(6, lower, y);
+        put_lane(w, j, z);
+    }
+}
+
+// Rounds 8 t + 5 and 8 t + 4 undone on each lane.
+fn undo_5_4(keys: &[u32; 132], t: usize, w: &mut [u32; 64])
+    requires { ⌜ (t < 4) × (length (now w) ≡ 64) ⌝ }
+    ensures { λ _. ⌜ Lanes (unroundsFrom (now (keys .entry)) (8 * t + 4) 2) (now (w .entry)) (now (w .exit)) ⌝ }
+{
+    let upper = four_words(keys, 4 * (8 * t + 5));
+    let lower = four_words(keys, 4 * (8 * t + 4));
+    for j in 0usize..16 {
+        let x = lane(w, j);
+        let y = unmixed(5, upper, x);
+        let z = unmixed(4, lower, y);
+        put_lane(w, j, z);
+    }
+}
+
+// Rounds 8 t + 3 and 8 t + 2 undone on each lane.
+fn undo_3_2(keys: &[u32; 132], t: usize, w: &mut [u32; 64])
+    requires { ⌜ (t < 4) × (length (now w) ≡ 64) ⌝ }
+    ensures { λ _. ⌜ Lanes (unroundsFrom (now (keys .entry)) (8 * t + 2) 2) (now (w .entry)) (now (w .exit)) ⌝ }
+{
+    let upper = four_words(keys, 4 * (8 * t + 3));
+    let lower = four_words(keys, 4 * (8 * t + 2));
+    for j in 0usize..16 {
+        let x = lane(w, j);
+        let y = unmixed(3, upper, x);
+        let z = unmixed(2, lower, y);
+        put_lane(w, j, z);
+    }
+}
+
+// Rounds 8 t + 1 and 8 t undone on each lane.
+fn undo_1_0(keys: &[u32; 132], t: usize, w: &mut [u32; 64])
+    requires { ⌜ (t < 4) × (length (now w) ≡ 64) ⌝ }
+    ensures { λ _. ⌜ Lanes (unroundsFrom (now (keys .entry)) (8 * t) 2) (now (w .entry)) (now (w .exit)) ⌝ }
+{
+    let upper = four_words(keys, 4 * (8 * t + 1));
+    let lower = four_words(keys, 4 * (8 * t));
+    for j in 0usize..16 {
+        let x = lane(w, j);
+        let y = unmixed(1, upper, x);
+        let z = unmixed(0, lower, y);
+        put_lane(w, j, z);
+    }
+}
+
+// Rounds 31 and 30 undone on each lane.
+fn undo_last(keys: &[u32; 132], w: &mut [u32; 64])
+    requires { ⌜ length (now w) ≡ 64 ⌝ }
+    ensures { λ _. ⌜ Lanes (λ x. unround (now (keys .entry)) 30 (unlast (now (keys .entry)) x)) (now (w .entry)) (now (w .exit)) ⌝ }
+{
+    let after = four_words(keys, 128);
+    let upper = four_words(keys, 124);
+    let lower = four_words(keys, 120);
+    for j in 0usize..16 {
+        let x = lane(w, j);
+        let y = unmixed_last(upper, after, x);
+        let z = unmixed(6, lower, y);
+        put_lane(w, j, z);
+    }
+}
+
+// Rounds 8 t + 5 to 8 t undone on each lane.
+fn undo_six(keys: &[u32; 132], t: usize, w: &mut [u32; 64])
+    requires { ⌜ (t < 4) × (length (now w) ≡ 64) ⌝ }
+    ensures { λ _. ⌜ Lanes (unroundsFrom (now (keys .entry)) (8 * t) 6) (now (w .entry)) (now (w .exit)) ⌝ }
+{
+    undo_5_4(keys, t, w);
+    undo_3_2(keys, t, w);
+    undo_1_0(keys, t, w);
 }
 
 pub fn decrypt_each(keys: &[u32; 132], w: &mut [u32; 64])
     requires { ⌜ length (now w) ≡ 64 ⌝ }
     ensures { λ _. ⌜ Lanes (decryptWords (now (keys .entry))) (now (w .entry)) (now (w .exit)) ⌝ }
 {
-    unlast_each(keys, w);
-    unseven_each(keys, 3, w);
+    undo_last(keys, w);
+    undo_six(keys, 3, w);
     for i in 0usize..3 {
-        unround_each(keys, 2 - i, 7, w);
-        unseven_each(keys, 2 - i, w);
+        undo_7_6(keys, 2 - i, w);
+        undo_six(keys, 2 - i, w);
     }
 }

@@ -11,7 +11,7 @@ use Rattle.serpent.proofs.rounds.unround.Tie as tie
 returns : tie.Need-returns
 returns c =
     let a = c .before .before .before .args in
-    c .unmixed .ensures ∙ undoes _ (a .t) (a .n) (a .b) (c .before .four-words .ensures)
+    c .unmixed .ensures ∙ undoes _ (8 * a .t + a .n) (a .n) (a .b) (omega arith) (c .before .four-words .ensures)
 
 pub unround-spec : {M : Type 1} → statement M
 unround-spec =
