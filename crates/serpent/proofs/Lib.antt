@@ -4,7 +4,3 @@ pub mod KeyTest
 pub mod Inverse
 pub mod OneBlock
 pub mod Pieces
-pub mod Groups
-pub mod Unmixed
-pub mod Sixteen
-pub mod Undoing

@@ -5,4 +5,3 @@ pub mod Keys
 pub mod Slices
 pub mod Parts
 pub mod Turns
-pub mod Lanes

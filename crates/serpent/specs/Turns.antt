@@ -1,30 +1,11 @@
--- How the faster forms count rounds and round keys. They are shown equal to Block's and Schedule's, which the promises name.
+-- How far the round keys are made. No promise names it.
 use mathlib.Core.Path.{_≡_}
 use mathlib.Core.List.{List}
-use Prim.Native.Nat.{ℕ, zero, suc, _+_, _*_}
+use Prim.Native.Nat.{ℕ, _*_}
 use lib.ListN.{length, take}
-use Rattle.bitslice.specs.Boxes.{boxWords, boxInvWords}
-use Rattle.serpent.specs.Block.{mix, round, unround}
 use Rattle.serpent.specs.Schedule.{roundKeys}
 
 -- of 33 round keys in their places, those below i stand
 pub record KeysUpTo (words k : List ℕ) (i : ℕ) : Type 0 where
   pub size : length k ≡ 132
   pub done : take (4 * i) k ≡ roundKeys words i
-
--- the last round, and what undoes it
-unfoldable pub last : List ℕ → List ℕ → List ℕ
-last ks b = mix ks 32 (boxWords 31 (mix ks 31 b))
-
-unfoldable pub unlast : List ℕ → List ℕ → List ℕ
-unlast ks b = mix ks 31 (boxInvWords 31 (mix ks 32 b))
-
--- rounds i to i + n - 1
-unfoldable pub roundsFrom : List ℕ → ℕ → ℕ → List ℕ → List ℕ
-roundsFrom ks i zero b = b
-roundsFrom ks i (suc n) b = round ks (i + n) (roundsFrom ks i n b)
-
--- rounds i + n - 1 to i undone
-unfoldable pub unroundsFrom : List ℕ → ℕ → ℕ → List ℕ → List ℕ
-unroundsFrom ks i zero b = b
-unroundsFrom ks i (suc n) b = unroundsFrom ks i n (unround ks (i + n) b)

@@ -1,8 +1,5 @@
 // The Serpent block cipher (src/lib.rs of the Rust): key setup, and one block each way.
-pub mod fast;
-mod lanes;
 pub mod parts;
-mod rounds;
 pub mod slices;
 
 use answers::DONE;
@@ -40,7 +37,7 @@ pub struct Keyed {
     pub cipher: Serpent,
 }
 
-fn xor(b1: Words, k: Words) -> Words
+pub fn xor(b1: Words, k: Words) -> Words
     ensures { λ r. ⌜ r ≡ xorWords b1 k ⌝ }
 {
     [b1[0] ^ k[0], b1[1] ^ k[1], b1[2] ^ k[2], b1[3] ^ k[3]]
@@ -70,7 +67,7 @@ fn word_at(b: &[u8], p: usize) -> u32
 }
 
 // A block as four little-endian words, and back.
-fn read_words(src: [u8; 16]) -> Words
+pub fn read_words(src: [u8; 16]) -> Words
     ensures { λ r. ⌜ r ≡ wordsOf src 4 ⌝ }
 {
     [
@@ -81,7 +78,7 @@ fn read_words(src: [u8; 16]) -> Words
     ]
 }
 
-fn write_words(src: Words) -> [u8; 16]
+pub fn write_words(src: Words) -> [u8; 16]
     ensures { λ r. ⌜ r ≡ bytesOf src 16 ⌝ }
 {
     let mut dst = [0u8; 16];
@@ -92,14 +89,14 @@ fn write_words(src: Words) -> [u8; 16]
 }
 
 // A box by its number: the one that apply_s answers is always DONE, as the index is reduced by 8.
-fn s_box(index: usize, words: Words) -> Words
+pub fn s_box(index: usize, words: Words) -> Words
     ensures { λ r. ⌜ r ≡ boxWords index words ⌝ }
 {
     let boxed = apply_s(index, words);
     boxed.words
 }
 
-fn s_box_inv(index: usize, words: Words) -> Words
+pub fn s_box_inv(index: usize, words: Words) -> Words
     ensures { λ r. ⌜ r ≡ boxInvWords index words ⌝ }
 {
     let boxed = apply_s_inv(index, words);

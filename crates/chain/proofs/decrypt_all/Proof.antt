@@ -9,7 +9,7 @@ use Rattle.words.specs.Blocks.{blockAt}
 use Rattle.words.proofs.Places.{block-there}
 use Rattle.words.proofs.Filled.{filled-none}
 use Rattle.serpent.specs.Block.{decryptBytes}
-use Rattle.serpent.proofs.Sixteen.{each-there}
+use Rattle.fast.proofs.Sixteen.{each-there}
 use Rattle.chain.specs.Chain.{xor, lastOr, blocks, decipher, join}
 use Rattle.chain.specs.Slices.{deciphered}
 use Rattle.chain.proofs.Blocks.{block}

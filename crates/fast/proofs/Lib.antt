@@ -1,0 +1,4 @@
+pub mod Groups
+pub mod Unmixed
+pub mod Sixteen
+pub mod Undoing
