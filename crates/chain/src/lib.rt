@@ -84,8 +84,8 @@ fn decrypt_all(round_keys: &[u32; 132], cipher: &[u8], start: [u8; 16], out: &mu
     let mut before = start;
     for s in 0..blocks / 16 {
         let sixteen = decrypt_sixteen(round_keys, &cipher[s * 256..s * 256 + 256]);
-        for j in 0..16 {
-            let next = put_text(block_at(&sixteen, j * 16), before, cipher, s * 16 + j, out);
+        for n in 0..16 {
+            let next = put_text(block_at(&sixteen, n * 16), before, cipher, s * 16 + n, out);
             before = next;
         }
     }

@@ -28,10 +28,10 @@ abbrev μ-loop : tie.MeasureT-loop
 
 -- the texts of sixteen
 abbrev Inv-loop2 : tie.InvT-loop2
-Inv-loop2 ks cipher out₀ blocks before₀ s sixteen j₀ n out before j = (j ≤ 16) × (length before ≡ 16) × Onward (decryptBytes ks) cipher out₀ before₀ (s * 16) out before (s * 16 + j)
+Inv-loop2 ks cipher out₀ blocks before₀ s sixteen n₀ sixteens out before n = (n ≤ 16) × (length before ≡ 16) × Onward (decryptBytes ks) cipher out₀ before₀ (s * 16) out before (s * 16 + n)
 
 abbrev μ-loop2 : tie.MeasureT-loop2
-μ-loop2 ks cipher out₀ blocks before₀ s sixteen j₀ n out before j = 16 - j
+μ-loop2 ks cipher out₀ blocks before₀ s sixteen n₀ sixteens out before n = 16 - n
 
 -- those that are left
 abbrev Inv-loop3 : tie.InvT-loop3
@@ -56,13 +56,13 @@ loop2-again c =
     let start = at1 .before .before .before in
     let a = start .args in
     let s = at1 .loop .s in
-    let j = at2 .loop2 .j in
+    let n = at2 .loop2 .n in
     let D = decryptBytes (a .round-keys .now) in
     let d = found .block-at .result in
     let size : length d ≡ 16 = found .block-at .ok .1 .0 .1 in
-    let here : d ≡ D (block (s * 16 + j) (a .cipher .now)) =
-    found .block-at .ensures ∙ ap (λ (l : List ℕ). blockAt l (j * 16)) (made .decrypt-sixteen .ensures)
-    ∙ each-there (a .round-keys .now) _ 16 j (omega arith) ∙ ap D (lent-block (a .cipher .now) s j (omega arith) (omega arith)) in
+    let here : d ≡ D (block (s * 16 + n) (a .cipher .now)) =
+    found .block-at .ensures ∙ ap (λ (l : List ℕ). blockAt l (n * 16)) (made .decrypt-sixteen .ensures)
+    ∙ each-there (a .round-keys .now) _ 16 n (omega arith) ∙ ap D (lent-block (a .cipher .now) s n (omega arith) (omega arith)) in
     let text : length (xor d (at2 .loop2 .before)) ≡ 16 = length-xor d (at2 .loop2 .before) (size ∙ sym (at2 .loop2 .inv .1)) ∙ size in
     (omega arith, put .put-text .ok .1 .0 .1, onward-to (omega arith) (onward-then (at2 .loop2 .inv .2) (onward-one D here (put .put-text .ensures .0) (put .put-text .ensures .1) text (omega arith) (omega (arith, start .pre, at1 .loop .inv .2 .size, at2 .loop2 .inv .2 .size)))))
 
@@ -70,7 +70,7 @@ loop-again : tie.Need-loop-again Inv-loop2 μ-loop2 Inv-loop μ-loop Inv-loop3 �
 loop-again c =
     let at2 = c .before in
     let at1 = at2 .before .before .before .before in
-    let all : at2 .loop2 .j ≡ 16 = omega arith in
+    let all : at2 .loop2 .n ≡ 16 = omega arith in
     (omega arith, at2 .loop2 .inv .1, onward-to (omega arith) (onward-then (at1 .loop .inv .2) (at2 .loop2 .inv .2)))
 
 loop3-holds : tie.Need-loop3-holds Inv-loop2 μ-loop2 Inv-loop μ-loop Inv-loop3 μ-loop3
