@@ -48,6 +48,13 @@ use Rattle.bitslice.proofs.linear_transform.Reads as linear_transform
 use Rattle.bitslice.proofs.linear_transform_inv.Reads as linear_transform_inv
 use Rattle.bitslice.proofs.apply_s.Reads as apply_s
 use Rattle.bitslice.proofs.apply_s_inv.Reads as apply_s_inv
+use Rattle.bitslice.proofs.round_box.Reads as round_box
+use Rattle.bitslice.proofs.round_box_inv.Reads as round_box_inv
+use Rattle.serpent.proofs.xor.Reads as xor_words
+use Rattle.serpent.proofs.read_words.Reads as read_words
+use Rattle.serpent.proofs.write_words.Reads as write_words
+use Rattle.serpent.proofs.s_box.Reads as s_box
+use Rattle.serpent.proofs.s_box_inv.Reads as s_box_inv
 use Rattle.serpent.proofs.Serpent.key_number.Reads as key_number
 use Rattle.serpent.proofs.Serpent.new_from_slice.Reads as new_from_slice
 use Rattle.serpent.proofs.Serpent.encrypt_block.Reads as encrypt_block
@@ -60,6 +67,9 @@ use Rattle.serpent.proofs.parts.apply_s.Reads as parts_apply_s
 use Rattle.serpent.proofs.parts.apply_s_inv.Reads as parts_apply_s_inv
 use Rattle.serpent.proofs.parts.linear_transform.Reads as parts_linear_transform
 use Rattle.serpent.proofs.parts.linear_transform_inv.Reads as parts_linear_transform_inv
+use Rattle.fast.proofs.encrypt_block.Reads as fast_encrypt_block
+use Rattle.fast.proofs.decrypt_block.Reads as fast_decrypt_block
+use Rattle.fast.proofs.decrypt_sixteen.Reads as decrypt_sixteen
 use Rattle.chain.proofs.encrypt_link.Reads as encrypt_link
 use Rattle.chain.proofs.decrypt_link.Reads as decrypt_link
 use Rattle.chain.proofs.encrypt_blocks.Reads as encrypt_blocks
@@ -190,6 +200,13 @@ pub record OneAnswer : Type 0 where
   pub linear-transform-inv : OneResult linear_transform_inv.Post
   pub apply-s : OneResult apply_s.Post
   pub apply-s-inv : OneResult apply_s_inv.Post
+  pub round-box : OneResult round_box.Post
+  pub round-box-inv : OneResult round_box_inv.Post
+  pub xor-words : OneResult xor_words.Post
+  pub read-words : OneResult read_words.Post
+  pub write-words : OneResult write_words.Post
+  pub s-box : OneResult s_box.Post
+  pub s-box-inv : OneResult s_box_inv.Post
   pub key-number : OneResult key_number.Post
   pub new-from-slice : OneResult new_from_slice.Post
   pub encrypt-block : OneResult encrypt_block.Post
@@ -210,6 +227,9 @@ pub record OneAnswer : Type 0 where
   pub linear-transform-slices-out : Determines parts_linear_transform.Post (λ κs x s. now (s .1 .0))
   pub linear-transform-inv-slices : OneResult parts_linear_transform_inv.Post
   pub linear-transform-inv-slices-out : Determines parts_linear_transform_inv.Post (λ κs x s. now (s .1 .0))
+  pub fast-encrypt-block : OneResult fast_encrypt_block.Post
+  pub fast-decrypt-block : OneResult fast_decrypt_block.Post
+  pub decrypt-sixteen : OneResult decrypt_sixteen.Post
   pub encrypt-link : OneResult encrypt_link.Post
   pub decrypt-link : OneResult decrypt_link.Post
   pub encrypt-blocks : OneResult encrypt_blocks.Post
@@ -362,6 +382,13 @@ one-answer = record {
   linear-transform-inv = λ κs a x y s t p q. once p q;
   apply-s = λ κs a x y s t p q. once p q;
   apply-s-inv = λ κs a x y s t p q. once p q;
+  round-box = λ κs a x y s t p q. once p q;
+  round-box-inv = λ κs a x y s t p q. once p q;
+  xor-words = λ κs a x y s t p q. once p q;
+  read-words = λ κs a x y s t p q. once p q;
+  write-words = λ κs a x y s t p q. once p q;
+  s-box = λ κs a x y s t p q. once p q;
+  s-box-inv = λ κs a x y s t p q. once p q;
   key-number = λ κs a x y s t p q. once p q;
   new-from-slice = λ κs a x y s t p q. once p q;
   encrypt-block = λ κs a x y s t p q. once p q;
@@ -382,6 +409,9 @@ one-answer = record {
   linear-transform-slices-out = λ κs a x y s t p q. once (p .1) (q .1);
   linear-transform-inv-slices = λ κs a x y s t p q. once (p .0) (q .0);
   linear-transform-inv-slices-out = λ κs a x y s t p q. once (p .1) (q .1);
+  fast-encrypt-block = λ κs a x y s t p q. once p q;
+  fast-decrypt-block = λ κs a x y s t p q. once p q;
+  decrypt-sixteen = λ κs a x y s t p q. once p q;
   encrypt-link = λ κs a x y s t p q. once p q;
   decrypt-link = λ κs a x y s t p q. once p q;
   encrypt-blocks = λ κs a x y s t p q. once (p .0) (q .0);

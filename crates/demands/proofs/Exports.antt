@@ -1,4 +1,4 @@
--- Demand 1 for what a host in C calls: each of the thirty-five exports has one answer. Their promises are those of the operations
+-- Demand 1 for what a host in C calls: each of the thirty-five exports has one answer, and so has each of the five that the bench calls. Their promises are those of the operations
 -- below them, by the same definitions, so that `Demand1` says of each when it is refused, and what it leaves.
 -- Assumes nothing.
 use denote.Ref.{now}
@@ -39,6 +39,11 @@ use Rattle.barkmottle.proofs.searches.barkmottle_search_kind.Reads as search_ki
 use Rattle.barkmottle.proofs.searches.barkmottle_search_class.Reads as search_class
 use Rattle.barkmottle.proofs.searches.barkmottle_search_inverter.Reads as search_inverter
 use Rattle.barkmottle.proofs.searches.barkmottle_search_sequence.Reads as search_sequence
+use Rattle.timed.proofs.timed_new_from_slice.Reads as timed_new_from_slice
+use Rattle.timed.proofs.timed_encrypt_block.Reads as timed_encrypt_block
+use Rattle.timed.proofs.timed_decrypt_block.Reads as timed_decrypt_block
+use Rattle.timed.proofs.timed_encrypt_blocks.Reads as timed_encrypt_blocks
+use Rattle.timed.proofs.timed_decrypt_blocks.Reads as timed_decrypt_blocks
 
 -- no two unlike results, nor two unlike contents of the lent buffer, meet an export's promise
 pub record OneExport : Type 0 where
@@ -89,6 +94,14 @@ pub record OneExport : Type 0 where
   pub search-class : OneResult search_class.Post
   pub search-inverter : OneResult search_inverter.Post
   pub search-sequence : OneResult search_sequence.Post
+  pub timed-new-from-slice : OneResult timed_new_from_slice.Post
+  pub timed-new-from-slice-out : Determines timed_new_from_slice.Post (λ κs x s. now (s .1 .0))
+  pub timed-encrypt-block-out : Determines timed_encrypt_block.Post (λ κs x s. now (s .1 .1 .0))
+  pub timed-decrypt-block-out : Determines timed_decrypt_block.Post (λ κs x s. now (s .1 .1 .0))
+  pub timed-encrypt-blocks : OneResult timed_encrypt_blocks.Post
+  pub timed-encrypt-blocks-out : Determines timed_encrypt_blocks.Post (λ κs x s. now (s .1 .1 .1 .0))
+  pub timed-decrypt-blocks : OneResult timed_decrypt_blocks.Post
+  pub timed-decrypt-blocks-out : Determines timed_decrypt_blocks.Post (λ κs x s. now (s .1 .1 .1 .0))
 
 pub one-export : OneExport
 one-export = record {
@@ -139,4 +152,12 @@ one-export = record {
   search-class = λ κs a x y s t p q. once p q;
   search-inverter = λ κs a x y s t p q. once p q;
   search-sequence = λ κs a x y s t p q. once p q;
+  timed-new-from-slice = λ κs a x y s t p q. once (p .0) (q .0);
+  timed-new-from-slice-out = λ κs a x y s t p q. once (p .1) (q .1);
+  timed-encrypt-block-out = λ κs a x y s t p q. once p q;
+  timed-decrypt-block-out = λ κs a x y s t p q. once p q;
+  timed-encrypt-blocks = λ κs a x y s t p q. once (p .0) (q .0);
+  timed-encrypt-blocks-out = λ κs a x y s t p q. once (p .1) (q .1);
+  timed-decrypt-blocks = λ κs a x y s t p q. once (p .0) (q .0);
+  timed-decrypt-blocks-out = λ κs a x y s t p q. once (p .1) (q .1);
 }
