@@ -680,10 +680,26 @@ static void search_five(void)
     searched(S(noise, 33), all, 4, 1, 0, 0, &no_fields);
 }
 
+/* One readable text alone, at places about those where a search begins to pass sixteen texts at a time. */
+static void search_far(void)
+{
+    static const size_t places[] = {15, 16, 31, 32, 33, 39, 47, 48, 49, 63, 64, 65, 239, 240, 241, MOST - 1};
+    static uint8_t texts[MOST * BLOCK];
+    for (size_t i = 0; i < sizeof places / sizeof *places; i++) {
+        memset(texts, 200, sizeof texts);
+        memcpy(texts + places[i] * BLOCK, fault_event, BLOCK);
+        const struct slice all = seal(texts, MOST, 32), key = S(noise, 32);
+        searched(key, all, 0, 0, places[i], places[i] + 1, &fault_fields);
+        searched(key, all, 7, 0, places[i], places[i] - 6, &fault_fields);
+        searched(key, all, places[i] + 1, 11, 0, MOST - places[i] - 1, &no_fields);
+    }
+}
+
 static void test_searches(void)
 {
     static uint8_t texts[MOST * BLOCK];
     search_five();
+    search_far();
     struct slice all = seal(texts, 0, 16);
     searched(S(noise, 16), all, 0, 11, 0, 0, &no_fields);
     searched(S(noise, 16), all, 1, 9, 0, 0, &no_fields);

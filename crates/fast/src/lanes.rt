@@ -55,7 +55,8 @@ pub fn store(w: &[u32; 64]) -> [u8; 256]
     out
 }
 
-// Two rounds at a time, since taking a lane up and putting it down costs too. Their boxes are written out: chosen by a parameter they would not be compiled into the loop.
+// Two rounds at a time, since taking a lane up and putting it down costs too. The boxes are written out: chosen by a parameter they would not be
+// compiled into the loop over the lanes.
 
 // Rounds 8 t + 7 and 8 t + 6 undone on each lane.
 fn undo_7_6(keys: &[u32; 132], t: usize, w: &mut [u32; 64])

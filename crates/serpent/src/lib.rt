@@ -88,7 +88,7 @@ pub fn write_words(src: Words) -> [u8; 16]
     dst
 }
 
-// A box by its number: the one that apply_s answers is always DONE, as the index is reduced by 8.
+// The words of a box alone: the number that apply_s answers is always DONE, as the index is reduced by 8.
 pub fn s_box(index: usize, words: Words) -> Words
     ensures { λ r. ⌜ r ≡ boxWords index words ⌝ }
 {
@@ -156,7 +156,7 @@ fn put_round_key(words: &[u32; 140], i: usize, index: usize, k: &mut [u32; 132])
     store_words(k, 4 * i, output);
 }
 
-// Round keys i to i + 7, with their boxes written out.
+// Round keys 8 t to 8 t + 7, with the numbers of their boxes written out: then nothing is left to choose.
 fn put_eight(words: &[u32; 140], t: usize, k: &mut [u32; 132])
     requires { ⌜ (t < 4) × KeysUpTo (now words) (now k) (8 * t) ⌝ }
     ensures { λ _. ⌜ KeysUpTo (now (words .entry)) (now (k .exit)) (8 * (t + 1)) ⌝ }
