@@ -117,11 +117,11 @@ function times_table(of_group, heading,    i, s, key) {
 
 function cost(way, n, of) { return median["size", way, n, of, runs] }
 
-# A line by least squares through the sizes that are multiples of 16: its beginning, its slope, and the greatest
+# A line by least squares through the sizes that are multiples of 16, from 16 on: its beginning, its slope, and the greatest
 # deviation from it in percent of what was measured.
 function fit(way, of,    i, x, y, sx, sy, sxx, sxy, m, d) {
     for (i = 1; i <= tasks; i++)
-        if (group[keys[i]] == "size" && name[keys[i]] == way && blocks[keys[i]] % 16 == 0) {
+        if (group[keys[i]] == "size" && name[keys[i]] == way && blocks[keys[i]] > 0 && blocks[keys[i]] % 16 == 0) {
             x = blocks[keys[i]]
             y = cost(way, x, of)
             m++; sx += x; sy += y; sxx += x * x; sxy += x * y
@@ -130,7 +130,7 @@ function fit(way, of,    i, x, y, sx, sy, sxx, sxy, m, d) {
     beginning = (sy - slope * sx) / m
     deviation = 0
     for (i = 1; i <= tasks; i++)
-        if (group[keys[i]] == "size" && name[keys[i]] == way && blocks[keys[i]] % 16 == 0) {
+        if (group[keys[i]] == "size" && name[keys[i]] == way && blocks[keys[i]] > 0 && blocks[keys[i]] % 16 == 0) {
             x = blocks[keys[i]]
             y = cost(way, x, of)
             d = 100 * (beginning + slope * x - y) / y
@@ -152,7 +152,7 @@ function size_table(    i, n, w, ways, s) {
             for (s = 1; s <= 2; s++) for (w = 1; w <= 2; w++) put(nanoseconds(cost(ways[w], n, side[s])))
         }
     write_table("Cost against size: a chain, key setup included")
-    print "What each of the first 15 blocks adds, and a line by least squares through the multiples of 16, 0 among them:\n"
+    print "What each of the first 15 blocks adds, and a line by least squares through the multiples of 16, from 16 to 256:\n"
     next_row()
     put("chain"); put("each block to 15, ns"); put("the line at no blocks, ns"); put("each block, ns"); put("greatest deviation from it, of what was measured")
     for (s = 1; s <= 2; s++)
