@@ -6,7 +6,7 @@ use Prim.Native.Nat.{ℕ, _*_, _≤_}
 use lib.ListN.{length, take, drop, take-append-drop}
 use lib.Seq.{length-take-le}
 use Rattle.answers.specs.Answers.{front}
-use Rattle.words.proofs.Filled.{Filled}
+use Rattle.words.specs.Filled.{Filled}
 
 pub filled-all : (was out : List ℕ) (n : ℕ) (done : List ℕ) → Filled was out n done → n * 16 ≤ length out → out ≡ front done was
 unfolding front

@@ -8,7 +8,7 @@ use native.Mathlib.Omega.{arith}
 use lib.ListN.{length, take, drop, getD, length-append, length-drop}
 use lib.Seq.{take-at, drop-at, length-take-le}
 use Rattle.serpent.specs.Block.{encryptBytes, decryptBytes}
-use Rattle.serpent.proofs.OneBlock.{encrypted-sixteen, decrypted-sixteen}
+use Rattle.serpent.proofs.Lengths.{encrypted-sixteen, decrypted-sixteen}
 use Rattle.chain.specs.Chain.{xor, encipher, decipher, blocks, blocksOf, join}
 use Rattle.chain.specs.Slices.{enciphered, deciphered}
 use Rattle.chain.proofs.Xors.{length-xor}

@@ -8,20 +8,11 @@ use lib.ListN.{length, take, drop, length-drop, take-append-drop}
 use lib.Seq.{drop-drop, take-append-le, drop-append-le, length-take-le, length-paste}
 use Rattle.words.specs.Blocks.{blockAt, putAt}
 use Rattle.words.proofs.Places.{block-there, put-there}
-use Rattle.words.proofs.Filled.{Filled, filled-more}
+use Rattle.words.proofs.Filled.{filled-more}
 use Rattle.chain.specs.Chain.{xor, lastOr, blocks, decipher, join}
+use Rattle.chain.specs.Turns.{At, Onward}
 use Rattle.chain.proofs.Blocks.{block}
 use Rattle.chain.proofs.Links.{last-more, decipher-more}
-
--- the chain c is deciphered from s up to place i: before is the cipher block before it, and the texts stand in front of out
-pub record At (D : List ℕ → List ℕ) (s c was out before : List ℕ) (i : ℕ) : Type 0 where
-  pub last : before ≡ lastOr s (blocks i c)
-  pub filled : Filled was out i (join (decipher D s (blocks i c)))
-
--- from place i₀ on to place i, whatever stands before place i₀
-pub record Onward (D : List ℕ → List ℕ) (c out₀ before₀ : List ℕ) (i₀ : ℕ) (out before : List ℕ) (i : ℕ) : Type 0 where
-  pub size : length out ≡ length out₀
-  pub on : (s was : List ℕ) → At D s c was out₀ before₀ i₀ → At D s c was out before i
 
 pub onward-none : (D : List ℕ → List ℕ) (c out before : List ℕ) (i : ℕ) → Onward D c out before i out before i
 onward-none D c out before i = record { size = refl; on = λ s was a. a }

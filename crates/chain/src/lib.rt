@@ -17,6 +17,7 @@ ghost use Rattle.answers.specs.Answers.{front, left};
 ghost use Rattle.words.specs.Blocks.{blockAt, putAt};
 ghost use Rattle.serpent.specs.Block.{encryptBytes, decryptBytes};
 ghost use Rattle.chain.specs.Chain.{xor};
+ghost use Rattle.chain.specs.Turns.{Onward};
 ghost use Rattle.chain.specs.Slices.{enciphered, deciphered, blocksNumber, chainNumber, encryptedChain, decryptedChain};
 
 // The most blocks of a chain.
@@ -58,7 +59,8 @@ fn encrypt_all(round_keys: &[u32; 132], text: &[u8], start: [u8; 16], out: &mut 
     }
 }
 
-// Puts the text at place i: `deciphered` XOR the cipher block before it. It answers the cipher block at place i, which the next text is chained to.
+// Puts the text at place i: `deciphered` XOR the cipher block before it. It answers the cipher block at place i, to which
+// the next text is chained.
 fn put_text(
     deciphered: [u8; 16],
     before: [u8; 16],
@@ -70,9 +72,30 @@ fn put_text(
     ensures next { λ r. ⌜ r ≡ blockAt (now (cipher .entry)) (i * 16) ⌝ }
     ensures put { λ _. ⌜ now (out .exit) ≡ putAt (now (out .entry)) (i * 16) (xor deciphered before) ⌝ }
 {
+    let block = block_at(cipher, i * 16);
     let text = xor_block(deciphered, before);
     put_block(text, out, i * 16);
-    block_at(cipher, i * 16)
+    block
+}
+
+// Puts the sixteen texts from place 16 s on. It answers the cipher block that the next text is chained to.
+fn put_sixteen(
+    round_keys: &[u32; 132],
+    cipher: &[u8],
+    start: [u8; 16],
+    s: usize,
+    out: &mut [u8],
+) -> [u8; 16]
+    requires { ⌜ (s * 256 + 256 ≤ length (now cipher)) × (length (now cipher) ≤ length (now out)) ⌝ }
+    ensures { λ r. ⌜ Onward (decryptBytes (now («round_keys» .entry))) (now (cipher .entry)) (now (out .entry)) start (s * 16) (now (out .exit)) r (s * 16 + 16) ⌝ }
+{
+    let sixteen = decrypt_sixteen(round_keys, &cipher[s * 256..s * 256 + 256]);
+    let mut before = start;
+    for n in 0..16 {
+        let next = put_text(block_at(&sixteen, n * 16), before, cipher, s * 16 + n, out);
+        before = next;
+    }
+    before
 }
 
 // Sixteen blocks at a time, and those that are left one at a time.
@@ -83,11 +106,8 @@ fn decrypt_all(round_keys: &[u32; 132], cipher: &[u8], start: [u8; 16], out: &mu
     let blocks = cipher.len() / 16;
     let mut before = start;
     for s in 0..blocks / 16 {
-        let sixteen = decrypt_sixteen(round_keys, &cipher[s * 256..s * 256 + 256]);
-        for n in 0..16 {
-            let next = put_text(block_at(&sixteen, n * 16), before, cipher, s * 16 + n, out);
-            before = next;
-        }
+        let next = put_sixteen(round_keys, cipher, before, s, out);
+        before = next;
     }
     for i in blocks / 16 * 16..blocks {
         let text = decrypt_block(round_keys, block_at(cipher, i * 16));

@@ -4,8 +4,8 @@ use mathlib.Core.Bool.{Bool, true}
 use mathlib.Core.List.{List}
 use Prim.Native.Nat.{ℕ, _≤_, _<_}
 use lib.ListN.{length, getD, replicate}
-use Rattle.serpent.specs.Parts.{setupNumber, roundKeysOut}
-use Rattle.serpent.specs.Slices.{blockNumber, encryptedOut, decryptedOut}
+use Rattle.slices.specs.Parts.{setupNumber, roundKeysOut}
+use Rattle.slices.specs.Blocks.{blockNumber, encryptedOut, decryptedOut}
 use Rattle.check_text.specs.Pattern.{Answer}
 
 -- it is done, and the wanted bytes stand in front, with the fill behind them

@@ -3,12 +3,12 @@
 use check_text::pattern::FILL;
 use check_text::pattern::is_answer;
 use check_text::pattern::is_kept;
-use serpent::parts::new_from_slice;
-use serpent::slices::decrypt_block;
-use serpent::slices::encrypt_block;
+use slices::decrypt_block;
+use slices::encrypt_block;
+use slices::parts::new_from_slice;
 ghost use lib.ListN.{length, replicate};
-ghost use Rattle.serpent.specs.Parts.{setupNumber, roundKeysOut};
-ghost use Rattle.serpent.specs.Slices.{blockNumber, encryptedOut, decryptedOut};
+ghost use Rattle.slices.specs.Parts.{setupNumber, roundKeysOut};
+ghost use Rattle.slices.specs.Blocks.{blockNumber, encryptedOut, decryptedOut};
 ghost use Rattle.check_oracle.specs.Verdicts.{Right, Refused, KeyRefused, ZeroWhere, TrueWhere};
 
 // 0 where a call is done and leaves the wanted bytes, and the fill behind them; else 1.

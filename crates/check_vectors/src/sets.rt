@@ -7,7 +7,7 @@ ghost use mathlib.Core.Path.{_≡_};
 ghost use mathlib.Core.Bool.{cond};
 ghost use Prim.Native.Nat.{_+_, _≤_};
 ghost use lib.ListN.{length};
-ghost use Rattle.serpent.specs.Slices.{blockNumber, encryptedOut, decryptedOut};
+ghost use Rattle.slices.specs.Blocks.{blockNumber, encryptedOut, decryptedOut};
 
 // The operation that is asked for.
 pub fn run(deciphering: bool, key: &[u8], block: &[u8], out: &mut [u8]) -> u32
@@ -15,9 +15,9 @@ pub fn run(deciphering: bool, key: &[u8], block: &[u8], out: &mut [u8]) -> u32
     ensures written { λ _. ⌜ now (out .exit) ≡ cond deciphering (decryptedOut (now (key .entry)) (now (block .entry)) (now (out .entry))) (encryptedOut (now (key .entry)) (now (block .entry)) (now (out .entry))) ⌝ }
 {
     if deciphering {
-        return serpent::slices::decrypt_block(key, block, out);
+        return slices::decrypt_block(key, block, out);
     }
-    serpent::slices::encrypt_block(key, block, out)
+    slices::encrypt_block(key, block, out)
 }
 
 // 0 where the operation makes `wanted` of a block; 1 where it makes something else or refuses.

@@ -16,11 +16,12 @@ use Rattle.words.proofs.Lists.{length-listOf}
 use Rattle.bitslice.proofs.Arms.{always}
 use Rattle.serpent.specs.Keys.{leastKey, greatestKey, keyNumber, keyed}
 use Rattle.serpent.specs.Schedule.{padded}
-use Rattle.serpent.specs.Parts.{setupNumber, paddedOut, roundKeysOut, wordsNumber, linearOut, linearInvOut, boxedNumber, boxedOut, boxedInvOut}
-use Rattle.serpent.specs.Slices.{blockNumber, encryptedOut, decryptedOut}
+use Rattle.slices.specs.Parts.{setupNumber, paddedOut, roundKeysOut, wordsNumber, linearOut, linearInvOut, boxedNumber, boxedOut, boxedInvOut}
+use Rattle.slices.specs.Blocks.{blockNumber, encryptedOut, decryptedOut}
 use Rattle.serpent.proofs.KeyTest.{accepts, refuses}
-use Rattle.serpent.proofs.Pieces as pieces
-use Rattle.serpent.proofs.OneBlock as slices
+use Rattle.serpent.proofs.Lengths.{encrypted-sixteen, decrypted-sixteen}
+use Rattle.slices.proofs.Pieces as pieces
+use Rattle.slices.proofs.OneBlock as slices
 use Rattle.chain.specs.Slices.{blockLimit, blocksNumber, chainNumber, encryptedChain, decryptedChain}
 use Rattle.chain.proofs.Numbers as chain
 use Rattle.chain.proofs.Lengths.{enciphered-length, deciphered-length}
@@ -51,6 +52,7 @@ use Rattle.bitslice.proofs.apply_s_inv.Reads as apply_s_inv
 use Rattle.bitslice.proofs.round_box.Reads as round_box
 use Rattle.bitslice.proofs.round_box_inv.Reads as round_box_inv
 use Rattle.serpent.proofs.xor.Reads as xor_words
+use Rattle.serpent.proofs.padded_key.Reads as padded_key
 use Rattle.serpent.proofs.read_words.Reads as read_words
 use Rattle.serpent.proofs.write_words.Reads as write_words
 use Rattle.serpent.proofs.s_box.Reads as s_box
@@ -59,14 +61,14 @@ use Rattle.serpent.proofs.Serpent.key_number.Reads as key_number
 use Rattle.serpent.proofs.Serpent.new_from_slice.Reads as new_from_slice
 use Rattle.serpent.proofs.Serpent.encrypt_block.Reads as encrypt_block
 use Rattle.serpent.proofs.Serpent.decrypt_block.Reads as decrypt_block
-use Rattle.serpent.proofs.slices.encrypt_block.Reads as encrypt_slice
-use Rattle.serpent.proofs.slices.decrypt_block.Reads as decrypt_slice
-use Rattle.serpent.proofs.parts.expand_key.Reads as parts_expand_key
-use Rattle.serpent.proofs.parts.new_from_slice.Reads as parts_new_from_slice
-use Rattle.serpent.proofs.parts.apply_s.Reads as parts_apply_s
-use Rattle.serpent.proofs.parts.apply_s_inv.Reads as parts_apply_s_inv
-use Rattle.serpent.proofs.parts.linear_transform.Reads as parts_linear_transform
-use Rattle.serpent.proofs.parts.linear_transform_inv.Reads as parts_linear_transform_inv
+use Rattle.slices.proofs.encrypt_block.Reads as encrypt_slice
+use Rattle.slices.proofs.decrypt_block.Reads as decrypt_slice
+use Rattle.slices.proofs.parts.expand_key.Reads as parts_expand_key
+use Rattle.slices.proofs.parts.new_from_slice.Reads as parts_new_from_slice
+use Rattle.slices.proofs.parts.apply_s.Reads as parts_apply_s
+use Rattle.slices.proofs.parts.apply_s_inv.Reads as parts_apply_s_inv
+use Rattle.slices.proofs.parts.linear_transform.Reads as parts_linear_transform
+use Rattle.slices.proofs.parts.linear_transform_inv.Reads as parts_linear_transform_inv
 use Rattle.fast.proofs.encrypt_block.Reads as fast_encrypt_block
 use Rattle.fast.proofs.decrypt_block.Reads as fast_decrypt_block
 use Rattle.fast.proofs.decrypt_sixteen.Reads as decrypt_sixteen
@@ -203,6 +205,7 @@ pub record OneAnswer : Type 0 where
   pub round-box : OneResult round_box.Post
   pub round-box-inv : OneResult round_box_inv.Post
   pub xor-words : OneResult xor_words.Post
+  pub padded-key : OneResult padded_key.Post
   pub read-words : OneResult read_words.Post
   pub write-words : OneResult write_words.Post
   pub s-box : OneResult s_box.Post
@@ -309,7 +312,7 @@ answers = record {
   block-5 = λ key block out k. slices.short-buffer key block out (accepted k);
   block-0 = λ key block out k size room. slices.ready-done key block out (record { keys = accepted k; size = size; room = room });
   block-kept = λ key block out h. (left-refused _ _ h, left-refused _ _ h);
-  block-past = λ key block out. (left-past _ _ _ 16 (slices.encrypted-sixteen _ _), left-past _ _ _ 16 (slices.decrypted-sixteen _ _));
+  block-past = λ key block out. (left-past _ _ _ 16 (encrypted-sixteen _ _), left-past _ _ _ 16 (decrypted-sixteen _ _));
   chain-1 = λ key text start out h. chain.bad-key key text start out (refuses key h);
   chain-2 = λ key text start out k. chain.ragged key text start out (accepted k);
   chain-3 = λ key text start out k. chain.bad-start key text start out (accepted k);
@@ -385,6 +388,7 @@ one-answer = record {
   round-box = λ κs a x y s t p q. once p q;
   round-box-inv = λ κs a x y s t p q. once p q;
   xor-words = λ κs a x y s t p q. once p q;
+  padded-key = λ κs a x y s t p q. once p q;
   read-words = λ κs a x y s t p q. once p q;
   write-words = λ κs a x y s t p q. once p q;
   s-box = λ κs a x y s t p q. once p q;

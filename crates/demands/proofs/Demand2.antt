@@ -14,7 +14,7 @@ use Rattle.bitslice.specs.Linear.{linearTransform, linearTransformInv}
 use Rattle.serpent.specs.Schedule.{padded, prekeys, roundKeys, schedule}
 use Rattle.serpent.specs.Block.{encryptBytes, decryptBytes}
 use Rattle.serpent.specs.Keys.{leastKey, greatestKey, keyed}
-use Rattle.serpent.specs.Slices.{encryptedOut, decryptedOut}
+use Rattle.slices.specs.Blocks.{encryptedOut, decryptedOut}
 use Rattle.chain.specs.Chain.{xor, encipher, decipher, blocksOf, join}
 use Rattle.chain.specs.Slices.{enciphered, deciphered, chainNumber, encryptedChain, decryptedChain}
 use Rattle.frame.specs.Frame.{startOf, cipherOf}
@@ -27,7 +27,7 @@ use Rattle.bitslice.proofs.Linear.{linear-inverse}
 use Rattle.serpent.proofs.Inverse.{block-inverse}
 use Rattle.serpent.proofs.Keys.{schedule-sized}
 use Rattle.serpent.proofs.KeyTest.{Accepted, accepts, keyed-accepted}
-use Rattle.serpent.proofs.OneBlock.{ready-done}
+use Rattle.slices.proofs.OneBlock.{ready-done}
 use Rattle.chain.proofs.RoundTrip.{cipher-equation, text-equation, chain-undone, chain-redone}
 use Rattle.demands.proofs.Readings.{readings}
 

@@ -14,7 +14,7 @@ use Rattle.words.proofs.Lists.{four-all}
 use Rattle.words.proofs.Places.{block-there}
 use Rattle.serpent.specs.Block.{decryptWords, decryptBytes}
 use Rattle.fast.specs.Lanes.{lane, putLane, Lanes, Loaded, laneBytes, decryptEach}
-use Rattle.serpent.proofs.OneBlock.{decrypted-sixteen}
+use Rattle.serpent.proofs.Lengths.{decrypted-sixteen}
 
 -- ---- a lane stored
 module _ (o : List ℕ) (j : ℕ) (x : List ℕ) (l : j < 16) where

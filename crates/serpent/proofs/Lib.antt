@@ -2,5 +2,4 @@ pub mod Padding
 pub mod Keys
 pub mod KeyTest
 pub mod Inverse
-pub mod OneBlock
-pub mod Pieces
+pub mod Lengths

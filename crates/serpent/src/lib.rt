@@ -1,7 +1,4 @@
 // The Serpent block cipher (src/lib.rs of the Rust): key setup, and one block each way.
-pub mod parts;
-pub mod slices;
-
 use answers::DONE;
 use answers::KEY_LENGTH;
 use bitslice::Words;
@@ -56,6 +53,16 @@ fn expand_key(source: &[u8]) -> [u8; 32]
         key[source.len()] = 1;
     }
     key
+}
+
+// The padded key of any bytes: of those past the 32nd nothing is left.
+pub fn padded_key(source: &[u8]) -> [u8; 32]
+    ensures { λ r. ⌜ r ≡ padded (now (source .entry)) ⌝ }
+{
+    if source.len() > 32 {
+        return expand_key(&source[0..32]);
+    }
+    expand_key(source)
 }
 
 // The little-endian word at place p.

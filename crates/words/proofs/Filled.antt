@@ -7,13 +7,8 @@ use native.Mathlib.Omega.{arith}
 use lib.ListN.{length, take, drop}
 use lib.Seq.{drop-drop, take-all, paste, take-paste, drop-paste, length-paste}
 use Rattle.words.specs.Blocks.{putAt}
+use Rattle.words.specs.Filled.{Filled}
 use Rattle.words.proofs.Places.{put-there}
-
--- out is was with its first i blocks written: they are done
-pub record Filled (was out : List ℕ) (i : ℕ) (done : List ℕ) : Type 0 where
-  pub written : take (i * 16) out ≡ done
-  pub kept : drop (i * 16) out ≡ drop (i * 16) was
-  pub size : length out ≡ length was
 
 pub filled-none : (out : List ℕ) → Filled out out 0 []
 filled-none out = record { written = refl; kept = refl; size = refl }

@@ -4,3 +4,4 @@ pub mod Rotation
 pub mod Bytes
 pub mod Blocks
 pub mod Inverse
+pub mod Filled

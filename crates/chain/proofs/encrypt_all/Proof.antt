@@ -12,7 +12,8 @@ use Rattle.chain.specs.Chain.{xor, lastOr, blocks, encipher, join}
 use Rattle.chain.specs.Slices.{enciphered}
 use Rattle.chain.proofs.Blocks.{block}
 use Rattle.chain.proofs.Links.{next, last-next, encipher-more}
-use Rattle.words.proofs.Filled.{Filled, filled-none, filled-more}
+use Rattle.words.specs.Filled.{Filled}
+use Rattle.words.proofs.Filled.{filled-none, filled-more}
 use Rattle.chain.proofs.Buffers.{filled-all}
 use Rattle.chain.proofs.encrypt_all.Statement.{statement}
 use Rattle.chain.proofs.encrypt_all.Tie as tie

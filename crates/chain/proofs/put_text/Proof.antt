@@ -7,9 +7,9 @@ use Rattle.chain.proofs.put_text.Tie as tie
 
 returns : tie.Need-returns
 returns c =
-    let put = c .before .before .before in
+    let put = c .before .before in
     let mixed = put .before .before in
-    (c .block-at .ensures, put .put-block .ensures ∙ ap (putAt _ _) (mixed .xor-block .ensures))
+    (mixed .before .block-at .ensures, put .put-block .ensures ∙ ap (putAt _ _) (mixed .xor-block .ensures))
 
 pub put-text-spec : {M : Type 1} → statement M
 put-text-spec =

@@ -2,7 +2,7 @@
 use mathlib.Core.Path.{_≡_}
 use borrow.Author.Needs.{needs}
 use lib.ListN.{length}
-use Rattle.serpent.specs.Parts.{boxedNumber}
+use Rattle.slices.specs.Parts.{boxedNumber}
 use Rattle.barkmottle.proofs.cipher.barkmottle_apply_s_inv.Statement.{statement}
 use Rattle.barkmottle.proofs.cipher.barkmottle_apply_s_inv.Tie as tie
 

@@ -2,7 +2,7 @@
 use mathlib.Core.Path.{_≡_}
 use borrow.Author.Needs.{needs}
 use lib.ListN.{length}
-use Rattle.serpent.specs.Slices.{blockNumber}
+use Rattle.slices.specs.Blocks.{blockNumber}
 use Rattle.barkmottle.proofs.cipher.barkmottle_encrypt_block.Statement.{statement}
 use Rattle.barkmottle.proofs.cipher.barkmottle_encrypt_block.Tie as tie
 

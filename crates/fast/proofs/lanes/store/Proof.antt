@@ -7,7 +7,8 @@ use borrow.Author.Needs.{needs}
 use lib.ListN.{length, replicate}
 use lib.Seq.{take-all}
 use Rattle.words.specs.Bytes.{bytesOf}
-use Rattle.words.proofs.Filled.{Filled, filled-none, filled-more}
+use Rattle.words.specs.Filled.{Filled}
+use Rattle.words.proofs.Filled.{filled-none, filled-more}
 use Rattle.fast.specs.Lanes.{lane, laneBytes}
 use Rattle.fast.proofs.Sixteen.{lane-bytes-more}
 use Rattle.fast.proofs.lanes.store.Statement.{statement}

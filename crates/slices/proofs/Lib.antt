@@ -1,0 +1,2 @@
+pub mod OneBlock
+pub mod Pieces
