@@ -8,7 +8,7 @@ use lib.ListN.{length}
 use Rattle.words.specs.Sized.{four}
 use Rattle.bitslice.specs.Boxes.{boxInvWords}
 use Rattle.bitslice.specs.Linear.{linearTransformInv}
-use Rattle.serpent.specs.Words.{xorWords}
+use Rattle.state.specs.Words.{xorWords}
 use Rattle.serpent.specs.Block.{unround, unrounds, decryptWords}
 use Rattle.fast.specs.Turns.{unlast, unroundsFrom}
 use Rattle.fast.specs.Lanes.{lane, putLane, Lanes}

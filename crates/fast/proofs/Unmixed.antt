@@ -6,7 +6,7 @@ use Prim.Native.Nat.{ℕ, _+_, _*_, _%_}
 use Rattle.words.specs.Sized.{four}
 use Rattle.bitslice.specs.Boxes.{box, boxOn, inverse, boxInvWords}
 use Rattle.bitslice.specs.Linear.{linearTransformInv}
-use Rattle.serpent.specs.Words.{xorWords}
+use Rattle.state.specs.Words.{xorWords}
 use Rattle.serpent.specs.Block.{mix, unround}
 use Rattle.fast.specs.Turns.{unlast}
 

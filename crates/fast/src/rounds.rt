@@ -2,9 +2,9 @@
 use bitslice::Words;
 use bitslice::linear_transform;
 use bitslice::linear_transform_inv;
-use serpent::s_box;
-use serpent::s_box_inv;
-use serpent::xor;
+use state::s_box;
+use state::s_box_inv;
+use state::xor;
 ghost use mathlib.Core.Path.{_≡_};
 ghost use mathlib.Core.Bool.{cond};
 ghost use Prim.Native.Nat.{_+_, _*_, _≤_, _<_};
@@ -12,7 +12,7 @@ ghost use lib.Dec.{eqb};
 ghost use Rattle.words.specs.Sized.{four};
 ghost use Rattle.bitslice.specs.Boxes.{boxInvWords};
 ghost use Rattle.bitslice.specs.Linear.{linearTransformInv};
-ghost use Rattle.serpent.specs.Words.{xorWords};
+ghost use Rattle.state.specs.Words.{xorWords};
 ghost use Rattle.serpent.specs.Block.{round, unround, encryptWords, decryptWords};
 ghost use Rattle.fast.specs.Turns.{last, unlast, roundsFrom, unroundsFrom};
 

@@ -5,7 +5,7 @@ use Rattle.words.specs.Sized.{four}
 use Rattle.words.specs.Bytes.{wordsOf, bytesOf}
 use Rattle.bitslice.specs.Boxes.{boxWords, boxInvWords}
 use Rattle.bitslice.specs.Linear.{linearTransform, linearTransformInv}
-use Rattle.serpent.specs.Words.{xorWords}
+use Rattle.state.specs.Words.{xorWords}
 
 -- XOR with round key i
 unfoldable pub mix : List ℕ → ℕ → List ℕ → List ℕ

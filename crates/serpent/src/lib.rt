@@ -2,22 +2,23 @@
 use answers::DONE;
 use answers::KEY_LENGTH;
 use bitslice::Words;
-use bitslice::apply_s;
-use bitslice::apply_s_inv;
 use bitslice::linear_transform;
 use bitslice::linear_transform_inv;
 use bitslice::round_box;
 use bitslice::round_box_inv;
+use state::read_words;
+use state::s_box;
+use state::s_box_inv;
+use state::write_words;
+use state::xor;
 use words::from_le_bytes;
-use words::le_byte;
 use words::rotate_left;
 ghost use mathlib.Core.Path.{_≡_};
 ghost use Prim.Native.Nat.{_+_, _*_, _%_, _≤_, _<_};
 ghost use lib.ListN.{length};
 ghost use Rattle.words.specs.Sized.{four};
-ghost use Rattle.words.specs.Bytes.{wordAt, wordsOf, bytesOf};
-ghost use Rattle.bitslice.specs.Boxes.{boxWords, boxInvWords};
-ghost use Rattle.serpent.specs.Words.{xorWords, stored};
+ghost use Rattle.words.specs.Bytes.{wordsOf};
+ghost use Rattle.serpent.specs.Words.{stored};
 ghost use Rattle.serpent.specs.Schedule.{padded, prekey, prekeys, boxOfKey, roundKeys};
 ghost use Rattle.serpent.specs.Block.{mix, encryptBytes, decryptBytes};
 ghost use Rattle.serpent.specs.Keys.{keyNumber, keyed};
@@ -32,12 +33,6 @@ pub struct Serpent {
 pub struct Keyed {
     pub number: u32,
     pub cipher: Serpent,
-}
-
-pub fn xor(b1: Words, k: Words) -> Words
-    ensures { λ r. ⌜ r ≡ xorWords b1 k ⌝ }
-{
-    [b1[0] ^ k[0], b1[1] ^ k[1], b1[2] ^ k[2], b1[3] ^ k[3]]
 }
 
 // The key bytes, the mark 0x01 behind them where there is room, and zeros.
@@ -63,51 +58,6 @@ pub fn padded_key(source: &[u8]) -> [u8; 32]
         return expand_key(&source[0..32]);
     }
     expand_key(source)
-}
-
-// The little-endian word at place p.
-fn word_at(b: &[u8], p: usize) -> u32
-    requires { ⌜ p + 4 ≤ length (now b) ⌝ }
-    ensures { λ r. ⌜ r ≡ wordAt (now (b .entry)) p ⌝ }
-{
-    from_le_bytes([b[p], b[p + 1], b[p + 2], b[p + 3]])
-}
-
-// A block as four little-endian words, and back.
-pub fn read_words(src: [u8; 16]) -> Words
-    ensures { λ r. ⌜ r ≡ wordsOf src 4 ⌝ }
-{
-    [
-        word_at(&src, 0),
-        word_at(&src, 4),
-        word_at(&src, 8),
-        word_at(&src, 12),
-    ]
-}
-
-pub fn write_words(src: Words) -> [u8; 16]
-    ensures { λ r. ⌜ r ≡ bytesOf src 16 ⌝ }
-{
-    let mut dst = [0u8; 16];
-    for k in 0..16 {
-        dst[k] = le_byte(src[k / 4], k);
-    }
-    dst
-}
-
-// The words of a box alone: the number that apply_s answers is always DONE, as the index is reduced by 8.
-pub fn s_box(index: usize, words: Words) -> Words
-    ensures { λ r. ⌜ r ≡ boxWords index words ⌝ }
-{
-    let boxed = apply_s(index, words);
-    boxed.words
-}
-
-pub fn s_box_inv(index: usize, words: Words) -> Words
-    ensures { λ r. ⌜ r ≡ boxInvWords index words ⌝ }
-{
-    let boxed = apply_s_inv(index, words);
-    boxed.words
 }
 
 // Four words from place p on, read and stored.
@@ -145,7 +95,7 @@ fn make_prekeys(key: [u8; 32]) -> [u32; 140]
 {
     let mut words = [0u32; 140];
     for i in 0..8 {
-        words[i] = word_at(&key, 4 * i);
+        words[i] = from_le_bytes([key[4 * i], key[4 * i + 1], key[4 * i + 2], key[4 * i + 3]]);
     }
     for i in 0..132 {
         words[i + 8] = next_prekey(&words, i);

@@ -4,7 +4,7 @@ use mathlib.Core.List.{List}
 use Prim.Native.Nat.{ℕ}
 use borrow.Author.Needs.{needs}
 use Rattle.bitslice.specs.Boxes.{boxWords}
-use Rattle.serpent.specs.Words.{xorWords}
+use Rattle.state.specs.Words.{xorWords}
 use Rattle.serpent.specs.Block.{mix}
 use Rattle.fast.specs.Turns.{last}
 use Rattle.fast.proofs.rounds.last.Statement.{statement}

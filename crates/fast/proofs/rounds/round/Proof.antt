@@ -6,7 +6,7 @@ use native.Mathlib.Omega.{arith}
 use borrow.Author.Needs.{needs}
 use Rattle.bitslice.specs.Boxes.{box, boxOn}
 use Rattle.bitslice.specs.Linear.{linearTransform}
-use Rattle.serpent.specs.Words.{xorWords}
+use Rattle.state.specs.Words.{xorWords}
 use Rattle.serpent.specs.Block.{mix, round}
 use Rattle.fast.proofs.rounds.round.Statement.{statement}
 use Rattle.fast.proofs.rounds.round.Tie as tie

@@ -4,7 +4,7 @@ use mathlib.Core.List.{List}
 use Prim.Native.Nat.{ℕ}
 use borrow.Author.Needs.{needs}
 use Rattle.bitslice.specs.Boxes.{boxInvWords}
-use Rattle.serpent.specs.Words.{xorWords}
+use Rattle.state.specs.Words.{xorWords}
 use Rattle.fast.proofs.rounds.unmixed.Statement.{statement}
 use Rattle.fast.proofs.rounds.unmixed.Tie as tie
 

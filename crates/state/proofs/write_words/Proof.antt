@@ -1,4 +1,4 @@
--- `serpent::write_words` meets its contract: after k turns the first k bytes stand. Assumes nothing.
+-- `state::write_words` meets its contract: after k turns the first k bytes stand. Assumes nothing.
 use mathlib.Core.Path.{_≡_}
 use Prim.Native.Nat.{_-_, _≤_}
 use borrow.Author.Needs.{needs}
@@ -8,8 +8,8 @@ use lib.Seq.{take-all}
 use Rattle.words.specs.Sized.{listOf}
 use Rattle.words.specs.Bytes.{bytesOf, byteAt}
 use Rattle.words.proofs.Lists.{built}
-use Rattle.serpent.proofs.write_words.Statement.{statement}
-use Rattle.serpent.proofs.write_words.Tie as tie
+use Rattle.state.proofs.write_words.Statement.{statement}
+use Rattle.state.proofs.write_words.Tie as tie
 
 abbrev Inv-loop : tie.InvT-loop
 Inv-loop src dst₀ k₀ dst k = (k ≤ 16) × (length dst ≡ 16) × (take k dst ≡ bytesOf src k)

@@ -1,7 +1,7 @@
--- `serpent::word_at` meets its contract: the word of the four bytes from the place on. Assumes nothing.
+-- `state::word_at` meets its contract: the word of the four bytes from the place on. Assumes nothing.
 use borrow.Author.Needs.{needs}
-use Rattle.serpent.proofs.word_at.Statement.{statement}
-use Rattle.serpent.proofs.word_at.Tie as tie
+use Rattle.state.proofs.word_at.Statement.{statement}
+use Rattle.state.proofs.word_at.Tie as tie
 
 returns : tie.Need-returns
 returns c = c .from-le-bytes .ensures

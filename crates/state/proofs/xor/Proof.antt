@@ -1,8 +1,8 @@
--- `serpent::xor` meets its contract, word by word. Assumes nothing.
+-- `state::xor` meets its contract, word by word. Assumes nothing.
 use mathlib.Core.Path.{refl}
 use borrow.Author.Needs.{needs}
-use Rattle.serpent.proofs.xor.Statement.{statement}
-use Rattle.serpent.proofs.xor.Tie as tie
+use Rattle.state.proofs.xor.Statement.{statement}
+use Rattle.state.proofs.xor.Tie as tie
 
 returns : tie.Need-returns
 returns c = refl

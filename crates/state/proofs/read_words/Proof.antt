@@ -1,10 +1,10 @@
--- `serpent::read_words` meets its contract, word by word. Assumes nothing.
+-- `state::read_words` meets its contract, word by word. Assumes nothing.
 use mathlib.Core.List.{[], _∷_}
 use borrow.Author.Needs.{needs}
 use Rattle.words.specs.Sized.{listOf}
 use Rattle.words.specs.Bytes.{wordsOf}
-use Rattle.serpent.proofs.read_words.Statement.{statement}
-use Rattle.serpent.proofs.read_words.Tie as tie
+use Rattle.state.proofs.read_words.Statement.{statement}
+use Rattle.state.proofs.read_words.Tie as tie
 
 returns : tie.Need-returns
 unfolding wordsOf listOf
