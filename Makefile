@@ -100,12 +100,12 @@ $(TIMED): $(SOURCES)
 # Everything is proved from nothing, every wrong edit is tried, every program is run. The tests from C come first: those
 # of the library run beside the proof of the command, those of the command follow. No two calls of rt work at a time.
 # rt's closing line, 'N passed, 0 failed', is the last line of the gate: nothing may follow it.
-of_library = run exports differential hostile
+LIBRARY_TESTS = run exports differential hostile
 test:
 	rt fmt --check
 	rt check $(call below,barkmottle gatelog)
 	$(MAKE) lib
-	printf '%s\n' "make gatelog" $(of_library:%="tests/%.sh $(ARCHIVE)") | tests/beside.sh sh -c
+	printf '%s\n' "make gatelog" $(LIBRARY_TESTS:%="tests/%.sh $(ARCHIVE)") | tests/beside.sh sh -c
 	printf '%s\n' "tests/install.sh $(ARCHIVE)" "tests/command.sh $(GATELOG)" | tests/beside.sh sh -c
 	rt ci
 
