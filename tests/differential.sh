@@ -7,8 +7,8 @@ cd "$(dirname "$0")/.."
 archive=${1:-target/staticlib/libbarkmottle.a}
 keys=${KEYS:-10000}
 seed=${SEED:-1}
-out=target/c/differential
 strict="-Wall -Wextra -Werror -std=c11 -O2 -Iinclude -Itests -Itests/compare"
+out=target/c/differential
 list=crates/check_oracle/data
 
 fail() {

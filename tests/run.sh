@@ -8,6 +8,7 @@ cc=${CC:-cc}
 cxx=${CXX:-c++}
 out=target/c
 strict="-Wall -Wextra -Werror -Iinclude"
+sanitize=$(tests/sanitizers.sh)
 
 fail() {
     echo "C: $1"
@@ -96,7 +97,6 @@ cmp "$out/cases/spots.frame" crates/check_gatelog/stdin || fail "crates/check_ga
 echo "cases: made again, the same"
 
 # The host on the samples, and on what it must refuse.
-sanitize=$(tests/sanitizers.sh)
 # shellcheck disable=SC2086
 build host examples/host.c -std=c99 -pedantic $sanitize
 # lists NAME KEYFILE FRAMEFILE: the host writes what tests/host.NAME.expected has.
