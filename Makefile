@@ -17,6 +17,12 @@ KIT = $(patsubst %/docs/START-HERE.md,%,$(shell rt doc))
 SOURCES = crates.txt $(shell find crates -name '*.rt' -o -name '*.antt')
 .NOTPARALLEL:
 
+# The crates right below archives, after crates.txt. `rt staticlib` proves those that are not proved yet one after the
+# other, `rt check` several at a time: so it goes first. One does for both archives where both are asked for.
+behind = $(foreach archive,$(1),$(shell sed -n 's/^$(archive)://p' crates.txt))
+below = $(sort $(filter $(notdir $(wildcard crates/*)),$(behind)))
+asked = $(if $(filter lib,$(MAKECMDGOALS)),barkmottle) $(filter gatelog,$(MAKECMDGOALS))
+
 # Proves and builds the command, and lists a sample log before and after one bit of it is flipped.
 first: gatelog
 	@echo
@@ -32,7 +38,8 @@ first: gatelog
 gatelog: $(GATELOG)
 
 $(GATELOG): $(SOURCES) command/main.c
-	@echo "proving the command and what it stands on, one crate after the other; each says how long it took"
+	@echo "proving what the command stands on, several crates at a time, and then the command itself"
+	rt check $(call below,gatelog $(asked))
 	rt staticlib gatelog
 	$(CC) -Wall -Wextra -Werror -O2 command/main.c target/staticlib/libgatelog.a $(KIT)/lib/libos_c.a -o $@
 
@@ -52,6 +59,7 @@ lib: $(ARCHIVE)
 	@echo "the archive is $(ARCHIVE), its header include/barkmottle.h"
 
 $(ARCHIVE): $(SOURCES)
+	rt check $(call below,barkmottle $(asked))
 	rt staticlib barkmottle
 
 # The library against the Rust crate, at full size: make differential [KEYS=N] [SEED=S] [SERPENT_SOURCE=FOLDER].
@@ -89,15 +97,16 @@ bench: lib $(TIMED)
 $(TIMED): $(SOURCES)
 	rt staticlib timed
 
-# Everything is proved from nothing, every wrong edit is tried, every program is run.
+# Everything is proved from nothing, every wrong edit is tried, every program is run. The tests from C come first: those
+# of the library run beside the proof of the command, those of the command follow. No two calls of rt work at a time.
 # rt's closing line, 'N passed, 0 failed', is the last line of the gate: nothing may follow it.
+LIBRARY_TESTS = run exports differential hostile
 test:
 	rt fmt --check
-	$(MAKE) lib gatelog
-	tests/run.sh $(ARCHIVE)
-	tests/differential.sh $(ARCHIVE)
-	tests/hostile.sh $(ARCHIVE)
-	tests/command.sh $(GATELOG)
+	rt check $(call below,barkmottle gatelog)
+	$(MAKE) lib
+	printf '%s\n' "make gatelog" $(LIBRARY_TESTS:%="tests/%.sh $(ARCHIVE)") | tests/beside.sh sh -c
+	printf '%s\n' "tests/install.sh $(ARCHIVE)" "tests/command.sh $(GATELOG)" | tests/beside.sh sh -c
 	rt ci
 
 # The same without the wrong edits, and with what is proved already kept: for work on the code.

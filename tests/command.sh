@@ -1,9 +1,9 @@
 #!/bin/sh
-# Runs the command as a person would: tests/command.sh [GATELOG]. What it leaves goes to target/c/.
+# Runs the command as a person would: tests/command.sh [GATELOG]. What it leaves goes to target/c/command/.
 set -eu
 cd "$(dirname "$0")/.."
 gatelog=${1:-target/gatelog}
-out=target/c
+out=target/c/command
 key=examples/key.txt
 frame=examples/healthy.frame
 calls=0

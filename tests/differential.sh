@@ -1,11 +1,13 @@
 #!/bin/sh
 # Holds the archive against the Rust crate: tests/differential.sh [ARCHIVE]. KEYS and SEED say how many keys and which.
-# Where the crate is not at hand, the list of its answers stands in. What is built goes to target/c/.
+# Where the crate is not at hand, the list of its answers stands in. What is built goes to target/c/differential/.
+# It calls itself for the wrong objects, which are tried side by side: tests/differential.sh ARCHIVE PART FAULT.c.
 set -eu
 cd "$(dirname "$0")/.."
 archive=${1:-target/staticlib/libbarkmottle.a}
 keys=${KEYS:-10000}
 seed=${SEED:-1}
+strict="-Wall -Wextra -Werror -std=c11 -O2 -Iinclude -Itests -Itests/compare"
 out=target/c/differential
 list=crates/check_oracle/data
 
@@ -17,8 +19,8 @@ fail() {
 build() {
     program=$1
     shift
-    ${CC:-cc} -Wall -Wextra -Werror -std=c11 -O2 -Iinclude -Itests -Itests/compare "$@" -lpthread -ldl -lm \
-        -o "$out/$program" || fail "$program is not built"
+    # shellcheck disable=SC2086
+    ${CC:-cc} $strict "$@" -lpthread -ldl -lm -o "$out/$program" || fail "$program is not built"
 }
 # lists PROGRAM: whether it makes the list that stands in the repository. It must end well, whatever the list.
 lists() {
@@ -30,8 +32,32 @@ lists() {
     done
 }
 
+# An archive with a wrong object in it must be found: by the list, and by the comparison. Each has a folder of its own.
+list_finds() {
+    out=$out/listed/$(basename "$1" .c)
+    mkdir -p "$out"
+    tests/wrong/build.sh "$archive" "$1" "$out/wrong.a" || fail "$1 is not built"
+    build make_list tests/oracle/make_list.c tests/compare/archive.c "$out/wrong.a"
+    if lists make_list; then fail "the list does not find $1"; fi
+}
+comparison_finds() {
+    objects=$out
+    out=$out/compared/$(basename "$1" .c)
+    mkdir -p "$out"
+    tests/wrong/build.sh "$archive" "$1" "$out/wrong.a" || fail "$1 is not built"
+    build compare "$objects/compare.o" "$objects/crate.o" "$out/wrong.a" "$objects/oracle/liboracle.a"
+    if "$out/compare" --keys 10000 --seed 1 >"$out/wrong.out" 2>&1; then fail "the comparison does not find $1"; fi
+    grep -q '^different: ' "$out/wrong.out" || fail "the comparison ends for another reason: $(cat "$out/wrong.out")"
+}
+beside() { tests/beside.sh tests/differential.sh "$archive" "$@"; }
+
 test -f "$archive" || fail "there is no $archive; run make lib first"
 mkdir -p "$out"
+if [ $# -gt 1 ]; then
+    shift
+    "$@"
+    exit
+fi
 status=0
 tests/oracle/build.sh "$out/oracle" || status=$?
 case $status in
@@ -49,32 +75,23 @@ if [ $crate = yes ]; then
     build make_list_crate tests/oracle/make_list.c tests/oracle/crate.c "$out/oracle/liboracle.a"
     lists make_list_crate || fail "the crate does not give the answers of the list in $list"
     echo "differential: so does the crate"
-    build compare tests/compare/compare.c tests/oracle/crate.c "$archive" "$out/oracle/liboracle.a"
+    # The sources are compiled once, and linked to the archive and then to those with a wrong object.
+    for source in tests/compare/compare.c tests/oracle/crate.c; do
+        # shellcheck disable=SC2086
+        ${CC:-cc} $strict -c "$source" -o "$out/$(basename "$source" .c).o" || fail "$source is not built"
+    done
+    build compare "$out/compare.o" "$out/crate.o" "$archive" "$out/oracle/liboracle.a"
     "$out/compare" --keys "$keys" --seed "$seed" || fail "the archive and the crate differ"
 fi
 
-# An archive with a wrong object in it must be found.
 if ! command -v objcopy >/dev/null 2>&1; then
     echo "differential: no wrong objects are tried, as objcopy is not on this machine"
     exit 0
 fi
-found=0
-for fault in tests/wrong/listed/*.c; do
-    tests/wrong/build.sh "$archive" "$fault" "$out/wrong.a" || fail "$fault is not built"
-    build make_list_wrong tests/oracle/make_list.c tests/compare/archive.c "$out/wrong.a"
-    if lists make_list_wrong; then fail "the list does not find $fault"; fi
-    found=$((found + 1))
-done
-echo "differential: the list finds each of $found wrong objects"
+set -- tests/wrong/listed/*.c
+printf '%s\n' "$@" | beside list_finds || fail "the list does not find every wrong object"
+echo "differential: the list finds each of $# wrong objects"
 if [ $crate = no ]; then exit 0; fi
-found=0
-for fault in tests/wrong/listed/*.c tests/wrong/compared/*.c; do
-    tests/wrong/build.sh "$archive" "$fault" "$out/wrong.a" || fail "$fault is not built"
-    build compare_wrong tests/compare/compare.c tests/oracle/crate.c "$out/wrong.a" "$out/oracle/liboracle.a"
-    if "$out/compare_wrong" --keys 10000 --seed 1 >"$out/wrong.out" 2>&1; then
-        fail "the comparison does not find $fault"
-    fi
-    grep -q '^different: ' "$out/wrong.out" || fail "the comparison ends for another reason: $(cat "$out/wrong.out")"
-    found=$((found + 1))
-done
-echo "differential: the comparison finds each of $found wrong objects"
+set -- tests/wrong/listed/*.c tests/wrong/compared/*.c
+printf '%s\n' "$@" | beside comparison_finds || fail "the comparison does not find every wrong object"
+echo "differential: the comparison finds each of $# wrong objects"

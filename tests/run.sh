@@ -1,5 +1,6 @@
 #!/bin/sh
-# Builds and runs the tests of the C side: tests/run.sh [ARCHIVE]. What is built goes to target/c/.
+# Tests the header, the archive's symbols, the samples and the host: tests/run.sh [ARCHIVE]. What is built goes to
+# target/c/.
 set -eu
 cd "$(dirname "$0")/.."
 archive=${1:-target/staticlib/libbarkmottle.a}
@@ -7,21 +8,19 @@ cc=${CC:-cc}
 cxx=${CXX:-c++}
 out=target/c
 strict="-Wall -Wextra -Werror -Iinclude"
-sanitize="-fsanitize=address,undefined -fno-sanitize-recover=all"
+sanitize=$(tests/sanitizers.sh)
 
 fail() {
     echo "C: $1"
     exit 1
 }
-# build NAME SOURCE FLAGS...: compiles one file and links it to the archive, or to the one that build_with names.
-build() { build_with "$archive" "$@"; }
-build_with() {
-    with=$1
-    name=$2
-    source=$3
-    shift 3
+# build NAME SOURCE FLAGS...: compiles one file and links it to the archive.
+build() {
+    name=$1
+    source=$2
+    shift 2
     # shellcheck disable=SC2086
-    $cc $strict "$@" "$source" "$with" -o "$out/$name" || fail "$source is not built"
+    $cc $strict "$@" "$source" "$archive" -o "$out/$name" || fail "$source is not built"
 }
 there() { command -v "$1" >/dev/null 2>&1; }
 
@@ -66,46 +65,6 @@ if there nm; then
     echo "archive: $(wc -l <"$out/defined") functions, nothing allocated, no data that is kept"
 else
     echo "archive: not looked into, as nm is not on this machine"
-fi
-
-# The exports, one by one.
-build exports tests/exports.c -std=c11 -O2
-"$out/exports" --self-test || fail "the tests of the exports do not find every fault"
-"$out/exports" >"$out/exports.out" || fail "an export answers something else: $(cat "$out/exports.out")"
-cat "$out/exports.out"
-# An archive with a wrong object in it must be found.
-if there objcopy; then
-    found=0
-    for fault in tests/wrong/exports/*.c; do
-        tests/wrong/build.sh "$archive" "$fault" "$out/wrong.a" || fail "$fault is not built"
-        build_with "$out/wrong.a" exports_wrong tests/exports.c -std=c11 -O2
-        if "$out/exports_wrong" >"$out/wrong.out" 2>&1; then fail "the tests of the exports do not find $fault"; fi
-        grep -q '^wrong: ' "$out/wrong.out" || fail "the tests end for another reason: $(cat "$out/wrong.out")"
-        found=$((found + 1))
-    done
-    echo "exports: each of $found wrong objects is found"
-else
-    echo "exports: no wrong objects are tried, as objcopy is not on this machine"
-fi
-# The sanitizers watch the test program, valgrind what the archive does as well.
-echo 'int main(void) { return 0; }' >"$out/empty.c"
-# shellcheck disable=SC2086
-if $cc $sanitize "$out/empty.c" -o "$out/empty" 2>/dev/null && "$out/empty"; then
-    # shellcheck disable=SC2086
-    build exports_sanitized tests/exports.c -std=c11 -O1 -g $sanitize
-    "$out/exports_sanitized" >"$out/sanitized.out" || fail "the sanitizers find a fault"
-    cmp "$out/sanitized.out" "$out/exports.out" || fail "with the sanitizers an export answers something else"
-    echo "exports: the same with the sanitizers for addresses and undefined behaviour"
-else
-    sanitize=
-    echo "exports: the compiler has no sanitizers on this machine"
-fi
-if there valgrind; then
-    valgrind -q --error-exitcode=9 "$out/exports" >"$out/valgrind.out" || fail "valgrind finds a fault"
-    cmp "$out/valgrind.out" "$out/exports.out" || fail "under valgrind an export answers something else"
-    echo "exports: the same under valgrind"
-else
-    echo "exports: valgrind is not on this machine"
 fi
 
 # The sample logs are what make_samples makes, and differ in one bit: byte 120, 0x10.
@@ -191,7 +150,6 @@ if [ -c /dev/full ]; then
 fi
 echo "host: both samples, and one under a wrong key, listed as expected; $refusals refusals said"
 
-tests/install.sh "$archive" || fail "the installation has a fault"
 if there groff; then
     groff -man -ww -z man/gatelog.1 >"$out/man.log" 2>&1 || fail "groff refuses the manual page"
     test ! -s "$out/man.log" || fail "the manual page: $(cat "$out/man.log")"
