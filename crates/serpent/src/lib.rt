@@ -17,7 +17,7 @@ ghost use mathlib.Core.Path.{_≡_};
 ghost use Prim.Native.Nat.{_+_, _*_, _%_, _≤_, _<_};
 ghost use lib.ListN.{length};
 ghost use Rattle.words.specs.Sized.{four};
-ghost use Rattle.words.specs.Bytes.{wordsOf};
+ghost use Rattle.words.specs.Bytes.{wordAt, wordsOf};
 ghost use Rattle.serpent.specs.Words.{stored};
 ghost use Rattle.serpent.specs.Schedule.{padded, prekey, prekeys, boxOfKey, roundKeys};
 ghost use Rattle.serpent.specs.Block.{mix, encryptBytes, decryptBytes};
@@ -89,13 +89,22 @@ fn next_prekey(words: &[u32; 140], i: usize) -> u32
     )
 }
 
+// Word i of the padded key, the lowest byte first.
+fn key_word(key: &[u8; 32], i: usize) -> u32
+    requires { ⌜ i < 8 ⌝ }
+    ensures { λ r. ⌜ r ≡ wordAt (now (key .entry)) (4 * i) ⌝ }
+{
+    let p = 4 * i;
+    from_le_bytes([key[p], key[p + 1], key[p + 2], key[p + 3]])
+}
+
 // The eight key words, and the 132 prekeys after them.
 fn make_prekeys(key: [u8; 32]) -> [u32; 140]
     ensures { λ r. ⌜ r ≡ prekeys (wordsOf key 8) 132 ⌝ }
 {
     let mut words = [0u32; 140];
     for i in 0..8 {
-        words[i] = from_le_bytes([key[4 * i], key[4 * i + 1], key[4 * i + 2], key[4 * i + 3]]);
+        words[i] = key_word(&key, i);
     }
     for i in 0..132 {
         words[i + 8] = next_prekey(&words, i);

@@ -32,8 +32,8 @@ loop-holds c = search needs
 loop-again : tie.Need-loop-again Inv-loop μ-loop Inv-loop2 μ-loop2
 unfolding wordsOf
 loop-again c =
-    let at = c .before .before .loop in
-    (omega arith, simp length-set (at .inv .1), built _ _ _ _ (omega arith) (at .inv .2) (c .from-le-bytes .ensures))
+    let at = c .before .before .before .loop in
+    (omega arith, simp length-set (at .inv .1), built _ _ _ _ (omega arith) (at .inv .2) (c .key-word .ensures))
 
 loop2-holds : tie.Need-loop2-holds Inv-loop μ-loop Inv-loop2 μ-loop2
 unfolding prekeys
@@ -55,5 +55,4 @@ returns c =
 pub make-prekeys-spec : {M : Type 1} → statement M
 make-prekeys-spec =
     tie.close
-    (tie.spec Inv-loop μ-loop Inv-loop2 μ-loop2 loop-holds (search needs) (search needs) (search needs) (search needs) (search needs) (search needs) (search needs) (search needs) (search needs) (search needs) (search needs) (search needs) (search needs) (search needs) (search needs) (search needs) loop-again
-    loop2-holds (search needs) (search needs) (search needs) (search needs) (search needs) (search needs) loop2-again returns)
+    (tie.spec Inv-loop μ-loop Inv-loop2 μ-loop2 loop-holds (search needs) (search needs) (search needs) (search needs) (search needs) loop-again loop2-holds (search needs) (search needs) (search needs) (search needs) (search needs) (search needs) loop2-again returns)
