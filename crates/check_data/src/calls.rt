@@ -1,5 +1,4 @@
 // The operations that a line can name. A new one is a row in `operation_of` and an arm with its number in `call`.
-use crate::fields::MOST;
 use crate::fields::row_of;
 use crate::values::put_event;
 use crate::values::put_words;
@@ -30,7 +29,7 @@ const TWO_NUMBERS: u32 = 99;
 // The round keys of encrypt_blocks and decrypt_blocks.
 const ZEROS: [u32; 132] = [0; 132];
 
-// The number of a line's operation, counted from 0; 19 where the line is malformed. A row is a name and the kinds of
+// The number of a line's operation, counted from 0; 18 where the line is malformed. A row is a name and the kinds of
 // the eight fields behind it: `n` is a number, `b` bytes, and `-` a field that the operation does not have.
 pub fn operation_of(line: &[u8]) -> usize {
     let fields = after(line, 0, b' ');
@@ -53,7 +52,6 @@ open_frame n-b----b
 read_event n-b----b
 search nbb-n--b
 ecb nbb----b
-cbc nbbb---b
 ",
         part(line, 0, b' '),
         &line[fields..],
@@ -88,24 +86,6 @@ fn ecb(key: &[u8], text: &[u8], out: &mut [u8]) -> u32 {
         return TEXT_LENGTH;
     }
     DONE
-}
-
-// A text enciphered into `out` as a chain, and deciphered again.
-fn cbc(key: &[u8], text: &[u8], start: &[u8], out: &mut [u8]) -> u32 {
-    let mut back = [0u8; MOST];
-    let n = text.len();
-    let number = chain::encrypt_chain(key, text, start, out);
-    if number != DONE {
-        return number;
-    }
-    if n > MOST || n > out.len() {
-        return NOT_BACK;
-    }
-    let again = chain::decrypt_chain(key, &out[0..n], start, &mut back);
-    if check::same(&back[0..n], text) {
-        return again;
-    }
-    NOT_BACK
 }
 
 // The start block and behind it the cipher blocks that opening gives.
@@ -166,7 +146,6 @@ pub fn call(
         14 => opening(bytes, out),
         15 => reading(bytes, out),
         16 => searching(key, bytes, place, out),
-        17 => ecb(key, bytes, out),
-        _ => cbc(key, bytes, start, out),
+        _ => ecb(key, bytes, out),
     }
 }

@@ -105,6 +105,12 @@ fn put_piece(piece: &[u8], out: &mut [u8]) -> usize
 pub fn bytes_of(field: &[u8], out: &mut [u8]) -> usize
     ensures { λ r. ⌜ Counts r (now (out .exit)) ⌝ }
 {
+    if field.len() == 0 {
+        return 0;
+    }
+    if field[field.len() - 1] == b',' {
+        return 0;
+    }
     let mut at = 0;
     let mut n = 0;
     while at < field.len() {
