@@ -51,7 +51,7 @@ static void put_bytes(FILE *file, const struct answers *answers, int field)
         fprintf(file, "%02x", answers->bytes[field][i]);
 }
 
-/* One call: its bytes, where it has any, and its answer. A key that is refused has number 1, zeros for bytes, no answer. */
+/* One call: its bytes, where it has any, and its answer. With a key that is refused: number 1, zeros, no answer. */
 static void put_call(FILE *file, const struct answers *answers, const char *name, int bytes, int answer)
 {
     const int refused = answers->length[KEYS] == 0;
@@ -187,7 +187,8 @@ int main(int count, char **words)
         fprintf(stderr, "usage: make_list FOLDER\n");
         return 2;
     }
-    put_file(words[1], "crate-patterns.txt", "Keys of zeros, of ones, and of the bytes 0, 1, 2 and so on.", put_patterns);
+    put_file(words[1], "crate-patterns.txt", "Keys of zeros, of ones, and of the bytes 0, 1, 2 and so on.",
+             put_patterns);
     put_file(words[1], "crate-single_bits.txt", "Keys of a single bit.", put_single_bits);
     put_file(words[1], "crate-drawn_1.txt", "Keys drawn from a seed.", put_drawn);
     put_file(words[1], "crate-drawn_2.txt", "Keys drawn from a seed.", put_drawn);

@@ -1,4 +1,4 @@
-// What the test programs share: bytes in hexadecimal, lines and fields, events as bytes, filled buffers, and what they write.
+// What the test programs share: hexadecimal digits, lines, events as bytes, filled buffers, and what they write.
 pub mod events;
 pub mod hex;
 pub mod lines;

@@ -14,22 +14,13 @@ Inv-loop field out₀ at₀ n₀ out at n = (at ≤ length field) × (n ≤ leng
 abbrev μ-loop : tie.MeasureT-loop
 μ-loop field out₀ at₀ n₀ out at n = length field - at
 
-same-length : tie.Need-same-length Inv-loop μ-loop
-same-length c = search needs
-
-add-n : tie.Need-add-n Inv-loop μ-loop
-add-n c = search needs
-
 loop-less : tie.Need-loop-less Inv-loop μ-loop
 loop-less c = omega (arith, c .after .ensures .1 (c .before .before .before .before .before .before .before .loop-test .taken))
 
-loop-again : tie.Need-loop-again Inv-loop μ-loop
-loop-again c = search needs
-
-returns-2 : tie.Need-returns-2 Inv-loop μ-loop
-returns-2 c = counts _ _ (omega arith)
+returns-4 : tie.Need-returns-4 Inv-loop μ-loop
+returns-4 c = counts _ _ (omega arith)
 
 pub bytes-of-spec : {M : Type 1} → statement M
 bytes-of-spec =
     tie.close
-    (tie.spec Inv-loop μ-loop (search needs) (search needs) (search needs) (search needs) (search needs) (search needs) same-length (search needs) add-n (search needs) loop-less loop-again (search needs) returns-2)
+    (tie.spec Inv-loop μ-loop (search needs) (search needs) (search needs) (search needs) (search needs) (search needs) (search needs) (search needs) (search needs) (search needs) (search needs) (search needs) (search needs) (search needs) loop-less (search needs) (search needs) returns-4)
