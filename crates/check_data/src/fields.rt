@@ -45,18 +45,20 @@ pub fn number_of(field: &[u8]) -> Number {
 fn repeated(piece: &[u8], out: &mut [u8]) -> usize
     ensures { λ r. ⌜ Counts r (now (out .exit)) ⌝ }
 {
-    let mut byte = [0u8; 1];
-    let times = number_of(part(piece, 0, b'*'));
+    let n = number_of(part(piece, 0, b'*')).value as usize;
     let from = after(piece, 0, b'*');
-    let n = times.value as usize;
-    if hex::bytes_of(&piece[from..], false, &mut byte) != 1 {
+    if piece.len() - from != 2 {
+        return 0;
+    }
+    let byte = hex::byte_of(piece[from], piece[from + 1]);
+    if byte > 255 {
         return 0;
     }
     if n > out.len() {
         return 0;
     }
     for i in 0..n {
-        out[i] = byte[0];
+        out[i] = byte as u8;
     }
     n
 }
@@ -75,11 +77,11 @@ fn signed(piece: &[u8], out: &mut [u8]) -> usize
     if !far.is {
         return 0;
     }
+    let mut value = far.value;
     if piece[0] == b'-' {
-        put_words(&[wrapping_sub_u64(0, far.value)], out, 0);
-    } else {
-        put_words(&[far.value], out, 0);
+        value = wrapping_sub_u64(0, value);
     }
+    put_words(&[value], out, 0);
     8
 }
 

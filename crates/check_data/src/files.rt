@@ -14,11 +14,10 @@ struct Counts {
     malformed: u64,
 }
 
-// A line that is not right.
-fn tell(name: &[u8], at: u64, what: &[u8], line: &[u8]) {
+// Says which line is not right, and its operation.
+fn tell(name: &[u8], what: &[u8], at: u64, line: &[u8]) {
     say::text(name);
-    say::fill(b" line #: ", &[at]);
-    say::text(what);
+    say::fill(what, &[at]);
     say::text(lines::part(line, 0, b' '));
     say::text(b"\n");
 }
@@ -32,11 +31,11 @@ fn check_any(name: &[u8], line: &[u8], mut c: Counts) -> Counts {
     match check_line(line) {
         Verdict::Right => {}
         Verdict::Wrong => {
-            tell(name, c.at, b"wrong: ", line);
+            tell(name, b" line #: wrong: ", c.at, line);
             c.wrong = wrapping_add_u64(c.wrong, 1);
         }
         Verdict::Malformed => {
-            tell(name, c.at, b"malformed: ", line);
+            tell(name, b" line #: malformed: ", c.at, line);
             c.malformed = wrapping_add_u64(c.malformed, 1);
         }
     }
@@ -59,7 +58,7 @@ fn check_lines(name: &[u8], s: &[u8]) -> Counts {
 }
 
 fn check_file(name: &[u8]) {
-    let mut buf = [0u8; 262144];
+    let mut buf = [0u8; 163840];
     let n = lines::load(name, &mut buf);
     let c = check_lines(name, &buf[..n]);
     say::text(name);

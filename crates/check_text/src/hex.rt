@@ -16,7 +16,7 @@ pub fn digit(b: u8) -> usize
 }
 
 // The byte that two digits spell; 256 where one of them is no digit.
-fn byte_of(high: u8, low: u8) -> usize {
+pub fn byte_of(high: u8, low: u8) -> usize {
     let h = digit(high);
     let l = digit(low);
     if h < 16 && l < 16 {

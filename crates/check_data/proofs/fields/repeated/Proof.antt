@@ -9,20 +9,20 @@ use Rattle.check_data.proofs.fields.repeated.Statement.{statement}
 use Rattle.check_data.proofs.fields.repeated.Tie as tie
 
 abbrev Inv-loop : tie.InvT-loop
-Inv-loop piece out₀ byte from n i₀ out i = (i ≤ n) × (n ≤ length out) × (length out ≡ length out₀)
+Inv-loop piece out₀ n from byte i₀ out i = (i ≤ n) × (byte ≤ 255) × (n ≤ length out) × (length out ≡ length out₀)
 
 abbrev μ-loop : tie.MeasureT-loop
-μ-loop piece out₀ byte from n i₀ out i = n - i
+μ-loop piece out₀ n from byte i₀ out i = n - i
 
 loop-again : tie.Need-loop-again Inv-loop μ-loop
 loop-again c =
     let at = c .before .loop in
-    (omega arith, simp length-set (at .inv .1), simp length-set (at .inv .2))
+    (omega arith, at .inv .1, simp length-set (at .inv .2), simp length-set (at .inv .3))
 
-returns-3 : tie.Need-returns-3 Inv-loop μ-loop
-returns-3 c = counts _ _ (omega arith)
+returns-4 : tie.Need-returns-4 Inv-loop μ-loop
+returns-4 c = counts _ _ (omega arith)
 
 pub repeated-spec : {M : Type 1} → statement M
 repeated-spec =
     tie.close
-    (tie.spec Inv-loop μ-loop (search needs) (search needs) (search needs) (search needs) (search needs) (search needs) (search needs) (search needs) (search needs) (search needs) (search needs) (search needs) (search needs) (search needs) (search needs) loop-again (search needs) returns-3)
+    (tie.spec Inv-loop μ-loop (search needs) (search needs) (search needs) (search needs) (search needs) (search needs) (search needs) (search needs) (search needs) (search needs) (search needs) (search needs) (search needs) (search needs) (search needs) (search needs) loop-again (search needs) returns-4)

@@ -8,10 +8,7 @@ use Rattle.check_data.proofs.fields.signed.Tie as tie
 returns-4 : tie.Need-returns-4
 returns-4 c = counts 8 (c .before .before .put-words .last .1 .0) (omega arith)
 
-returns-5 : tie.Need-returns-5
-returns-5 c = counts 8 (c .before .before .put-words2 .last .1 .0) (omega arith)
-
 pub signed-spec : {M : Type 1} → statement M
 signed-spec =
     tie.close
-    (tie.spec (search needs) (search needs) (search needs) (search needs) (search needs) (search needs) (search needs) (search needs) (search needs) (search needs) (search needs) (search needs) (search needs) (search needs) returns-4 (search needs) returns-5)
+    (tie.spec (search needs) (search needs) (search needs) (search needs) (search needs) (search needs) (search needs) (search needs) (search needs) (search needs) (search needs) (search needs) returns-4)
