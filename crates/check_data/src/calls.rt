@@ -1,4 +1,5 @@
-// The operations that a line can name. A new one is a row in `operation_of` and an arm with its number in `call`.
+// The operations that a line can name. A new one is a row in `operation_of`, and an arm with the row's number in `call`
+// or in `call_cipher`.
 use crate::fields::row_of;
 use crate::values::put_event;
 use crate::values::put_words;
@@ -29,8 +30,8 @@ const TWO_NUMBERS: u32 = 99;
 // The round keys of encrypt_blocks and decrypt_blocks.
 const ZEROS: [u32; 132] = [0; 132];
 
-// The number of a line's operation, counted from 0; 18 where the line is malformed. A row is a name and the kinds of
-// the eight fields behind it: `n` is a number, `b` bytes, and `-` a field that the operation does not have.
+// The row of a line's operation, counted from 0; NONE where the line is malformed. A row is a name and the kinds of the
+// eight fields behind it: `n` is a number, `b` bytes, and `-` a field that the operation does not have.
 pub fn operation_of(line: &[u8]) -> usize {
     let fields = after(line, 0, b' ');
     row_of(
@@ -42,6 +43,7 @@ apply_s n-b-n-nb
 apply_s_inv n-b-n-nb
 linear_transform n-b---nb
 linear_transform_inv n-b---nb
+ecb nbb----b
 encrypt_chain nbbb--nb
 decrypt_chain nbbb--nb
 encrypt_blocks n-bb--nb
@@ -51,7 +53,6 @@ read_window nbb-nnnb
 open_frame n-b----b
 read_event n-b----b
 search nbb-n--b
-ecb nbb----b
 ",
         part(line, 0, b' '),
         &line[fields..],
@@ -118,7 +119,22 @@ fn searching(key: &[u8], frame: &[u8], place: usize, out: &mut [u8]) -> u32 {
     found.number
 }
 
-// Makes the call, and answers its number.
+// Makes a call of the cipher.
+fn call_cipher(operation: usize, key: &[u8], bytes: &[u8], place: usize, out: &mut [u8]) -> u32 {
+    match operation {
+        0 => slices::encrypt_block(key, bytes, out),
+        1 => slices::decrypt_block(key, bytes, out),
+        2 => parts::expand_key(key, out),
+        3 => parts::new_from_slice(key, out),
+        4 => parts::apply_s(place, bytes, out),
+        5 => parts::apply_s_inv(place, bytes, out),
+        6 => parts::linear_transform(bytes, out),
+        7 => parts::linear_transform_inv(bytes, out),
+        _ => ecb(key, bytes, out),
+    }
+}
+
+// Makes a call, and answers its number.
 pub fn call(
     operation: usize,
     key: &[u8],
@@ -129,23 +145,15 @@ pub fn call(
     out: &mut [u8],
 ) -> u32 {
     match operation {
-        0 => slices::encrypt_block(key, bytes, out),
-        1 => slices::decrypt_block(key, bytes, out),
-        2 => parts::expand_key(key, out),
-        3 => parts::new_from_slice(key, out),
-        4 => parts::apply_s(place, bytes, out),
-        5 => parts::apply_s_inv(place, bytes, out),
-        6 => parts::linear_transform(bytes, out),
-        7 => parts::linear_transform_inv(bytes, out),
-        8 => chain::encrypt_chain(key, bytes, start, out),
-        9 => chain::decrypt_chain(key, bytes, start, out),
-        10 => chain::encrypt_blocks(&ZEROS, bytes, block_at(start, 0), out),
-        11 => chain::decrypt_blocks(&ZEROS, bytes, block_at(start, 0), out),
-        12 => frame_start(bytes, out),
-        13 => read_window(key, bytes, place, count, out),
-        14 => opening(bytes, out),
-        15 => reading(bytes, out),
-        16 => searching(key, bytes, place, out),
-        _ => ecb(key, bytes, out),
+        9 => chain::encrypt_chain(key, bytes, start, out),
+        10 => chain::decrypt_chain(key, bytes, start, out),
+        11 => chain::encrypt_blocks(&ZEROS, bytes, block_at(start, 0), out),
+        12 => chain::decrypt_blocks(&ZEROS, bytes, block_at(start, 0), out),
+        13 => frame_start(bytes, out),
+        14 => read_window(key, bytes, place, count, out),
+        15 => opening(bytes, out),
+        16 => reading(bytes, out),
+        17 => searching(key, bytes, place, out),
+        _ => call_cipher(operation, key, bytes, place, out),
     }
 }

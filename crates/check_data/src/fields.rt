@@ -12,6 +12,9 @@ ghost use Rattle.io.specs.Counts.{Counts};
 // The most bytes of a field.
 pub const MOST: usize = 4224;
 
+// No row of the operations.
+pub const NONE: usize = 0xffff_ffff_ffff_ffff;
+
 // A field read as a number, and whether it is one: decimal digits, below 2^64.
 pub struct Number {
     pub is: bool,
@@ -162,7 +165,7 @@ fn are_of(kinds: &[u8], fields: &[u8]) -> bool {
     is_of(kinds[last], &fields[at..])
 }
 
-// The number of the row that a line fits; of all rows, where it fits none. A row is a name and the kinds of the fields.
+// The number of the row that a line fits; NONE where it fits none. A row is a name and the kinds of the fields.
 pub fn row_of(rows: &[u8], name: &[u8], fields: &[u8]) -> usize {
     let mut at = 0;
     let mut row = 0;
@@ -175,5 +178,5 @@ pub fn row_of(rows: &[u8], name: &[u8], fields: &[u8]) -> usize {
         at = after(rows, at, b'\n');
         row += 1;
     }
-    row
+    NONE
 }

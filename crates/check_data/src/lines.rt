@@ -2,6 +2,7 @@
 use crate::calls::call;
 use crate::calls::operation_of;
 use crate::fields::MOST;
+use crate::fields::NONE;
 use crate::fields::bytes_of;
 use crate::fields::field;
 use crate::fields::number_of;
@@ -17,9 +18,6 @@ pub enum Verdict {
     Wrong,
     Malformed,
 }
-
-// How many operations there are.
-const OPERATIONS: usize = 18;
 
 // Whether a call has answered the wanted number, and left the wanted bytes and the fill behind them.
 fn is_right(number: u32, wanted: u64, out: &[u8], answer: &[u8]) -> bool
@@ -75,7 +73,7 @@ pub fn check_line(line: &[u8]) -> Verdict {
     let mut answer = [0u8; MOST];
     let mut out = [FILL; MOST];
     let operation = operation_of(line);
-    if operation == OPERATIONS {
+    if operation == NONE {
         return Verdict::Malformed;
     }
     let from = after(line, 0, b' ');
