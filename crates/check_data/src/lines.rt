@@ -21,8 +21,9 @@ pub enum Verdict {
 
 // Whether a call has answered the wanted number, and left the wanted bytes and the fill behind them.
 fn is_right(number: u32, wanted: u64, out: &[u8], answer: &[u8]) -> bool
-    ensures { λ r. ⌜ (r ≡ true → number ≡ wanted) × (r ≡ true → Answer (now (out .entry)) (now (answer .entry))) ⌝ }
-    ensures { λ r. ⌜ (number ≡ wanted → Answer (now (out .entry)) (now (answer .entry)) → r ≡ true) ⌝ }
+    ensures number { λ r. ⌜ (r ≡ true → number ≡ wanted) ⌝ }
+    ensures answer { λ r. ⌜ (r ≡ true → Answer (now (out .entry)) (now (answer .entry))) ⌝ }
+    ensures both { λ r. ⌜ (number ≡ wanted → Answer (now (out .entry)) (now (answer .entry)) → r ≡ true) ⌝ }
 {
     if number as u64 != wanted {
         return false;
