@@ -1,7 +1,7 @@
 # make: a first look. make test: the gate. make lib, make gatelog, make install: what people use.
 # make differential, make peers, make hostile, make flipped: the library held against the outside. make bench: its speed.
 
-.PHONY: first lib gatelog log vectors differential peers hostile flipped bench test check fmt install uninstall clean
+.PHONY: first lib gatelog data differential peers hostile flipped bench test check fmt install uninstall clean
 
 PREFIX = /usr/local
 DESTDIR =
@@ -43,16 +43,10 @@ $(GATELOG): $(SOURCES) command/main.c
 	rt staticlib gatelog
 	$(CC) -Wall -Wextra -Werror -O2 command/main.c target/staticlib/libgatelog.a $(KIT)/lib/libos_c.a -o $@
 
-# Proves the log, and runs readings and refusals through it.
-log:
-	rt check check_log
-	target/bin/check_log
-
-# Proves cipher and chain, and shows what the published vectors say of the compiled code.
-vectors:
-	rt check check_vectors check_chain
-	cd crates/check_vectors/data && ../../../target/bin/check_vectors
-	cd crates/check_chain/data && ../../../target/bin/check_chain
+# Proves and makes each call that the data says: published vectors, the Rust crate's answers, and document 01.
+data:
+	rt check check_data
+	cd crates/check_data/data && ../../../target/bin/check_data
 
 # Proves what the C host calls, and writes it as an archive.
 lib: $(ARCHIVE)

@@ -9,7 +9,7 @@ keys=${KEYS:-10000}
 seed=${SEED:-1}
 strict="-Wall -Wextra -Werror -std=c11 -O2 -Iinclude -Itests -Itests/compare"
 out=target/c/differential
-list=crates/check_oracle/data
+list=crates/check_data/data
 
 fail() {
     echo "differential: $1"
@@ -69,7 +69,7 @@ esac
 # The list, made by the archive and, where it is at hand, by the crate.
 build make_list tests/oracle/make_list.c tests/compare/archive.c "$archive"
 lists make_list || fail "the archive does not give the answers of the list in $list"
-answers=$(cd "$out/list" && cat patterns.txt single_bits.txt drawn_?.txt | grep -vc '^#')
+answers=$(cd "$out/list" && cat crate-patterns.txt crate-single_bits.txt crate-drawn_?.txt | grep -vc '^#')
 echo "differential: the archive gives the $answers answers of the list"
 if [ $crate = yes ]; then
     build make_list_crate tests/oracle/make_list.c tests/oracle/crate.c "$out/oracle/liboracle.a"

@@ -365,7 +365,7 @@ static void test_blocks(void)
 {
     block_refusals(e_encrypt_block);
     block_refusals(e_decrypt_block);
-    /* NESSIE, set 1, vector 0 for 128, 192 and 256 bits, as in crates/check_vectors/data/ecb-botan.txt. */
+    /* NESSIE, set 1, vector 0 for 128, 192 and 256 bits, as in crates/check_data/data/ecb-botan.txt. */
     block_vector("80000000000000000000000000000000", ZERO_BLOCK, "264e5481eff42a4606abda06c0bfda3d");
     block_vector("800000000000000000000000000000000000000000000000", ZERO_BLOCK, "9e274ead9b737bb21efcfca548602689");
     block_vector("8000000000000000000000000000000000000000000000000000000000000000", ZERO_BLOCK,
@@ -419,7 +419,7 @@ static void test_chains(void)
     uint8_t key[16], start[16], text[64], published[64];
     chain_refusals(e_encrypt_chain);
     chain_refusals(e_decrypt_chain);
-    /* cryptsetup's vector on the key, start and text of SP 800-38A: crates/check_chain/data/cbc-cryptsetup.txt. */
+    /* cryptsetup's vector on the key, start and text of SP 800-38A: crates/check_data/data/cbc-cryptsetup.txt. */
     from_hex("2b7e151628aed2a6abf7158809cf4f3c", key, 16);
     from_hex("000102030405060708090a0b0c0d0e0f", start, 16);
     from_hex("6bc1bee22e409f96e93d7e117393172aae2d8a571e03ac9c9eb76fac45af8e51"

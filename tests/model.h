@@ -115,4 +115,51 @@ static void model_chain(const uint8_t *key, size_t key_length, const uint8_t *te
     }
 }
 
+/* ---- The way back, step by step the other way round ---- */
+
+static inline void model_box_back(int box, uint32_t *x)
+{
+    uint32_t y[4] = {0, 0, 0, 0};
+    for (int j = 0; j < 32; j++) {
+        int nibble = 0, from = 0;
+        for (int i = 0; i < 4; i++)
+            nibble |= (int)(x[i] >> j & 1) << i;
+        while (model_boxes[box][from] != nibble)
+            from++;
+        for (int i = 0; i < 4; i++)
+            y[i] |= (uint32_t)(from >> i & 1) << j;
+    }
+    memcpy(x, y, sizeof y);
+}
+
+static inline void model_linear_back(uint32_t *x)
+{
+    x[2] = model_rotate(x[2], 32 - 22);
+    x[0] = model_rotate(x[0], 32 - 5);
+    x[2] ^= x[3] ^ x[1] << 7;
+    x[0] ^= x[1] ^ x[3];
+    x[3] = model_rotate(x[3], 32 - 7);
+    x[1] = model_rotate(x[1], 32 - 1);
+    x[3] ^= x[2] ^ x[0] << 3;
+    x[1] ^= x[0] ^ x[2];
+    x[2] = model_rotate(x[2], 32 - 3);
+    x[0] = model_rotate(x[0], 32 - 13);
+}
+
+static inline void model_block_back(const uint32_t *keys, const uint8_t *cipher, uint8_t *text)
+{
+    uint32_t x[4];
+    model_read(cipher, x, 4);
+    for (int i = 0; i < 4; i++)
+        x[i] ^= keys[128 + i];
+    for (int round = 31; round >= 0; round--) {
+        if (round < 31)
+            model_linear_back(x);
+        model_box_back(round % 8, x);
+        for (int i = 0; i < 4; i++)
+            x[i] ^= keys[4 * round + i];
+    }
+    model_write(x, text, 4);
+}
+
 #endif

@@ -96,6 +96,18 @@ diff -r "$out/cases" crates/check_gatelog/data || fail "crates/check_gatelog/dat
 cmp "$out/cases/spots.frame" crates/check_gatelog/stdin || fail "crates/check_gatelog/stdin is another log"
 echo "cases: made again, the same"
 
+# So are the lines that document 01 says, which the plain cipher and the law work out without the archive.
+# shellcheck disable=SC2086
+$cc $strict -Itests -std=c11 -O2 tests/make_lines.c tests/hostile/law.c -o "$out/make_lines" ||
+    fail "make_lines is not built"
+mkdir -p "$out/lines"
+rm -f "$out/lines"/*
+(cd "$out/lines" && ../make_lines) || fail "the lines are not made"
+for lines in "$out/lines"/*; do
+    cmp "$lines" "crates/check_data/data/$(basename "$lines")" || fail "$lines is not what crates/check_data/data has"
+done
+echo "lines: made again, the same"
+
 # The host on the samples, and on what it must refuse.
 # shellcheck disable=SC2086
 build host examples/host.c -std=c99 -pedantic $sanitize

@@ -1,9 +1,9 @@
 /*
- * Writes a list of answers: make_list FOLDER. Linked with the Rust crate it makes the files that
- * crates/check_oracle/data has; linked with the archive it must make the same.
+ * Writes a list of answers: make_list FOLDER. Linked with the Rust crate it makes the files crate-*.txt that
+ * crates/check_data/data has; linked with the archive it must make the same.
  *
- * A line has a key, its round keys, a text and the text enciphered, a cipher and the cipher deciphered, in
- * hexadecimal; or a key and the word "refused".
+ * Of each key three calls: its round keys, a text enciphered, a cipher deciphered. The lines have the form that
+ * crates/check_data reads. Each buffer is longer than the answer.
  */
 #include <stdio.h>
 #include <stdlib.h>
@@ -12,10 +12,10 @@
 #include "drawn.h"
 #include "other.h"
 
-/* A line's fields, in its order. */
+/* What is answered to a key: nothing but the key where it is refused. */
 enum { KEY, KEYS, TEXT, ENCIPHERED, CIPHER, DECIPHERED, FIELDS };
 
-struct line {
+struct answers {
     size_t length[FIELDS];
     uint8_t bytes[FIELDS][ROUND_KEYS];
 };
@@ -36,8 +36,6 @@ static FILE *begin(const char *folder, const char *name, const char *keys)
     if (file == NULL)
         failed(path);
     fprintf(file, "# Answers of the Rust crate serpent 0.6.0, made by tests/oracle/make_list.c. %s\n", keys);
-    fprintf(file, "# A line: a key, its round keys, a text, the text enciphered, a cipher, the cipher deciphered;\n"
-                  "# or a key that the crate refuses.\n");
     return file;
 }
 
@@ -47,38 +45,76 @@ static void end(FILE *file)
         failed("make_list");
 }
 
-static void put(FILE *file, const struct line *line)
+static void put_bytes(FILE *file, const struct answers *answers, int field)
 {
-    for (int field = 0; field < FIELDS && line->length[field] > 0; field++) {
-        if (field > 0)
-            fputc(' ', file);
-        for (size_t i = 0; i < line->length[field]; i++)
-            fprintf(file, "%02x", line->bytes[field][i]);
-    }
-    fputs(line->length[KEYS] == 0 ? " refused\n" : "\n", file);
+    for (size_t i = 0; i < answers->length[field]; i++)
+        fprintf(file, "%02x", answers->bytes[field][i]);
+}
+
+/* One call: its bytes, where it has any, and its answer. With a key that is refused: number 1, zeros, no answer. */
+static void put_call(FILE *file, const struct answers *answers, const char *name, int bytes, int answer)
+{
+    const int refused = answers->length[KEYS] == 0;
+    fprintf(file, "%s %d ", name, refused);
+    put_bytes(file, answers, KEY);
+    fputc(' ', file);
+    if (bytes == KEY)
+        fputc('-', file);
+    else if (refused)
+        fputs("16*00", file);
+    else
+        put_bytes(file, answers, bytes);
+    fprintf(file, " - - - %d ", bytes == KEY ? ROUND_KEYS + 16 : 2 * BLOCK);
+    if (refused)
+        fputc('-', file);
+    else
+        put_bytes(file, answers, answer);
+    fputc('\n', file);
+}
+
+static void put_keys(FILE *file, const struct answers *answers)
+{
+    put_call(file, answers, "new_from_slice", KEY, KEYS);
+}
+
+static void put_enciphered(FILE *file, const struct answers *answers)
+{
+    put_call(file, answers, "encrypt_block", TEXT, ENCIPHERED);
+}
+
+static void put_deciphered(FILE *file, const struct answers *answers)
+{
+    put_call(file, answers, "decrypt_block", CIPHER, DECIPHERED);
+}
+
+static void put(FILE *file, const struct answers *answers)
+{
+    put_keys(file, answers);
+    put_enciphered(file, answers);
+    put_deciphered(file, answers);
 }
 
 /* What is answered to a key. */
-static struct line answered(const uint8_t *key, size_t length)
+static struct answers answered(const uint8_t *key, size_t length)
 {
-    struct line line = {.length = {length, ROUND_KEYS, BLOCK, BLOCK, BLOCK, BLOCK}};
-    memcpy(line.bytes[KEY], key, length);
-    draw_bytes(&state, line.bytes[TEXT], BLOCK);
-    draw_bytes(&state, line.bytes[CIPHER], BLOCK);
+    struct answers answers = {.length = {length, ROUND_KEYS, BLOCK, BLOCK, BLOCK, BLOCK}};
+    memcpy(answers.bytes[KEY], key, length);
+    draw_bytes(&state, answers.bytes[TEXT], BLOCK);
+    draw_bytes(&state, answers.bytes[CIPHER], BLOCK);
     if (other.set_key(key, length) != 0) {
-        line.length[KEYS] = 0;
-        return line;
+        answers.length[KEYS] = 0;
+        return answers;
     }
-    other.round_keys(line.bytes[KEYS]);
-    other.encrypt_block(line.bytes[TEXT], line.bytes[ENCIPHERED]);
-    other.decrypt_block(line.bytes[CIPHER], line.bytes[DECIPHERED]);
-    return line;
+    other.round_keys(answers.bytes[KEYS]);
+    other.encrypt_block(answers.bytes[TEXT], answers.bytes[ENCIPHERED]);
+    other.decrypt_block(answers.bytes[CIPHER], answers.bytes[DECIPHERED]);
+    return answers;
 }
 
 static void put_answer(FILE *file, const uint8_t *key, size_t length)
 {
-    struct line line = answered(key, length);
-    put(file, &line);
+    const struct answers answers = answered(key, length);
+    put(file, &answers);
 }
 
 static void put_patterns(FILE *file, size_t length)
@@ -122,24 +158,27 @@ static void put_file(const char *folder, const char *name, const char *keys, voi
 }
 
 /* Wrong on purpose: one bit flipped in each field, a key said to be refused, and one of 33 bytes said to be taken. */
-static void put_damaged(FILE *file)
+static void put_wrong(FILE *file)
 {
+    /* the calls that a field stands in */
+    void (*const puts_field[FIELDS])(FILE *, const struct answers *) = {
+        put, put_keys, put_enciphered, put_enciphered, put_deciphered, put_deciphered};
     uint8_t key[MOST_KEY];
-    struct line line;
+    struct answers wrong;
     draw_bytes(&state, key, MOST_KEY);
-    const struct line right = answered(key, 24);
+    const struct answers right = answered(key, 24);
     for (int field = 0; field < FIELDS; field++) {
-        line = right;
-        line.bytes[field][line.length[field] - 1] ^= 0x80;
-        put(file, &line);
+        wrong = right;
+        wrong.bytes[field][wrong.length[field] - 1] ^= 0x80;
+        puts_field[field](file, &wrong);
     }
-    line = right;
-    line.length[KEYS] = 0;
-    put(file, &line);
-    line = right;
-    line.length[KEY] = MOST_KEY;
-    memcpy(line.bytes[KEY], key, MOST_KEY);
-    put(file, &line);
+    wrong = right;
+    wrong.length[KEYS] = 0;
+    put(file, &wrong);
+    wrong = right;
+    wrong.length[KEY] = MOST_KEY;
+    memcpy(wrong.bytes[KEY], key, MOST_KEY);
+    put(file, &wrong);
 }
 
 int main(int count, char **words)
@@ -148,12 +187,13 @@ int main(int count, char **words)
         fprintf(stderr, "usage: make_list FOLDER\n");
         return 2;
     }
-    put_file(words[1], "patterns.txt", "Keys of zeros, of ones, and of the bytes 0, 1, 2 and so on.", put_patterns);
-    put_file(words[1], "single_bits.txt", "Keys of a single bit.", put_single_bits);
-    put_file(words[1], "drawn_1.txt", "Keys drawn from a seed.", put_drawn);
-    put_file(words[1], "drawn_2.txt", "Keys drawn from a seed.", put_drawn);
-    FILE *file = begin(words[1], "damaged.txt", "Then made wrong, each line in one place.");
-    put_damaged(file);
+    put_file(words[1], "crate-patterns.txt", "Keys of zeros, of ones, and of the bytes 0, 1, 2 and so on.",
+             put_patterns);
+    put_file(words[1], "crate-single_bits.txt", "Keys of a single bit.", put_single_bits);
+    put_file(words[1], "crate-drawn_1.txt", "Keys drawn from a seed.", put_drawn);
+    put_file(words[1], "crate-drawn_2.txt", "Keys drawn from a seed.", put_drawn);
+    FILE *file = begin(words[1], "crate-wrong.txt", "Then made wrong, each line in one place.");
+    put_wrong(file);
     end(file);
     return 0;
 }

@@ -1,5 +1,5 @@
 // Logs of events made by hand, listed in two pages.
-use check_text::frames::event_block;
+use check_text::events::event_block;
 use check_text::say;
 use listing::put_closing;
 use listing::put_head;

@@ -1,4 +1,3 @@
 -- What the contracts of this crate cite.
-pub mod Frames
-pub mod Counts
+pub mod Events
 pub mod Pattern

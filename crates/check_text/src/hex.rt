@@ -4,7 +4,7 @@ ghost use lib.ListN.{length};
 ghost use Rattle.io.specs.Counts.{Counts};
 
 // The value of a hexadecimal digit; 16 for any other byte.
-fn digit(b: u8) -> usize
+pub fn digit(b: u8) -> usize
     ensures { λ r. ⌜ r ≤ 16 ⌝ }
 {
     match b {
@@ -16,7 +16,7 @@ fn digit(b: u8) -> usize
 }
 
 // The byte that two digits spell; 256 where one of them is no digit.
-fn byte_of(high: u8, low: u8) -> usize {
+pub fn byte_of(high: u8, low: u8) -> usize {
     let h = digit(high);
     let l = digit(low);
     if h < 16 && l < 16 {

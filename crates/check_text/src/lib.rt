@@ -1,7 +1,6 @@
-// What the test programs share: bytes in hexadecimal, lines and fields, frames and events as bytes, counts, and what they write.
-pub mod frames;
+// What the test programs share: hexadecimal digits, lines, events as bytes, filled buffers, and what they write.
+pub mod events;
 pub mod hex;
 pub mod lines;
 pub mod pattern;
 pub mod say;
-pub mod tally;
