@@ -13,6 +13,9 @@ GATELOG = target/gatelog
 # The kit's own part in C, for programs that open files.
 KIT = $(patsubst %/docs/START-HERE.md,%,$(shell rt doc))
 
+# Checks at a time: one more than processors, and at most five, so that no processor waits while a long check ends.
+export RT_JOBS ?= $(shell nproc | awk '{ print ($$1 < 4 ? $$1 : 4) + 1 }')
+
 # What the two are made of. They are made one after the other, since both work in target/.
 SOURCES = crates.txt $(shell find crates -name '*.rt' -o -name '*.antt')
 .NOTPARALLEL:
