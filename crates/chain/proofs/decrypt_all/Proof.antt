@@ -50,35 +50,40 @@ loop2-again c =
     let put = c .before .before in
     let made = put .before .before in
     let read = made .before in
-    let at3 = read .before .before in
-    let at1 = at3 .before .before in
+    let at2 = read .before .before in
+    let at1 = at2 .before .before in
     let start = at1 .before .before .before in
     let a = start .args in
-    let i = at3 .loop2 .i in
+    let i = at2 .loop2 .i in
     let D = decryptBytes (a .round-keys .now) in
     let d = made .decrypt-block .result in
     let size : length d ≡ 16 = made .decrypt-block .ok .1 .0 .1 in
     let here : d ≡ D (block i (a .cipher .now)) =
     made .decrypt-block .ensures ∙ ap D (read .block-at .ensures ∙ sym (block-there (a .cipher .now) (i * 16) (omega arith))) in
-    let text : length (xor d (at3 .loop2 .before)) ≡ 16 = length-xor d (at3 .loop2 .before) (size ∙ sym (at3 .loop2 .inv .1)) ∙ size in
-    (omega arith, put .put-text .ok .1 .0 .1, onward-then (at3 .loop2 .inv .2) (onward-one D here (put .put-text .ensures .0) (put .put-text .ensures .1) text (omega arith) (omega (arith, start .pre, at1 .loop .inv .2 .size, at3 .loop2 .inv .2 .size))))
+    let text : length (xor d (at2 .loop2 .before)) ≡ 16 = length-xor d (at2 .loop2 .before) (size ∙ sym (at2 .loop2 .inv .1)) ∙ size in
+    let more =
+    onward-one D here (put .put-text .ensures .0) (put .put-text .ensures .1) text (omega arith)
+    (omega (arith, start .pre, at1 .loop .inv .2 .size, at2 .loop2 .inv .2 .size)) in
+    (omega arith, put .put-text .ok .1 .0 .1, onward-then (at2 .loop2 .inv .2) more)
 
 returns : tie.Need-returns Inv-loop μ-loop Inv-loop2 μ-loop2
 unfolding deciphered lastOr blocks join decipher
 returns c =
-    let at3 = c .before in
-    let at1 = at3 .before .before in
+    let at2 = c .before in
+    let at1 = at2 .before .before in
     let start = at1 .before .before .before in
     let a = start .args in
     let D = decryptBytes (a .round-keys .now) in
     let n = length (a .cipher .now) / 16 in
     let sixteens : at1 .loop .s * 16 ≡ length (a .cipher .now) / 16 / 16 * 16 = omega arith in
-    let all : at3 .loop2 .i ≡ length (a .cipher .now) / 16 = omega arith in
+    let all : at2 .loop2 .i ≡ length (a .cipher .now) / 16 = omega arith in
     let begun : At D (a .start) (a .cipher .now) (a .out .now) (a .out .now) (a .start) 0 = record { last = refl; filled = filled-none _ } in
-    let went = onward-then (onward-to sixteens (at1 .loop .inv .2)) (onward-to all (at3 .loop2 .inv .2)) in
-    filled-all (a .out .now) (at3 .loop2 .out) n _ (went .on (a .start) (a .out .now) begun .filled) (omega (arith, start .pre, went .size))
+    let went = onward-then (onward-to sixteens (at1 .loop .inv .2)) (onward-to all (at2 .loop2 .inv .2)) in
+    filled-all (a .out .now) (at2 .loop2 .out) n _ (went .on (a .start) (a .out .now) begun .filled) (omega (arith, start .pre, went .size))
 
 pub decrypt-all-spec : {M : Type 1} → statement M
 decrypt-all-spec =
     tie.close
-    (tie.spec Inv-loop μ-loop Inv-loop2 μ-loop2 loop-holds (search needs) (search needs) (search needs) loop-again (search needs) loop2-holds (search needs) (search needs) (search needs) (search needs) (search needs) (search needs) loop2-again (search needs) returns)
+    (tie.spec Inv-loop μ-loop Inv-loop2 μ-loop2 loop-holds (search needs) (search needs) (search needs) loop-again
+    (search needs) loop2-holds (search needs) (search needs) (search needs) (search needs) (search needs)
+    (search needs) loop2-again (search needs) returns)

@@ -42,7 +42,10 @@ loop-again c =
     found .block-at .ensures ∙ ap (λ (l : List ℕ). blockAt l (n * 16)) (made .decrypt-sixteen .ensures)
     ∙ each-there (a .round-keys .now) _ 16 n (omega arith) ∙ ap D (lent-block (a .cipher .now) s n (omega arith) (omega arith)) in
     let text : length (xor d (at .loop .before)) ≡ 16 = length-xor d (at .loop .before) (size ∙ sym (at .loop .inv .1)) ∙ size in
-    (omega arith, put .put-text .ok .1 .0 .1, onward-to (omega arith) (onward-then (at .loop .inv .2) (onward-one D here (put .put-text .ensures .0) (put .put-text .ensures .1) text (omega arith) (omega (arith, start .pre, at .loop .inv .2 .size)))))
+    let more =
+    onward-one D here (put .put-text .ensures .0) (put .put-text .ensures .1) text (omega arith)
+    (omega (arith, start .pre, at .loop .inv .2 .size)) in
+    (omega arith, put .put-text .ok .1 .0 .1, onward-to (omega arith) (onward-then (at .loop .inv .2) more))
 
 returns : tie.Need-returns Inv-loop μ-loop
 returns c =
@@ -53,4 +56,6 @@ returns c =
 pub put-sixteen-spec : {M : Type 1} → statement M
 put-sixteen-spec =
     tie.close
-    (tie.spec Inv-loop μ-loop (search needs) (search needs) (search needs) (search needs) (search needs) (search needs) (search needs) loop-holds (search needs) (search needs) (search needs) (search needs) (search needs) (search needs) (search needs) (search needs) loop-again (search needs) returns)
+    (tie.spec Inv-loop μ-loop (search needs) (search needs) (search needs) (search needs) (search needs)
+    (search needs) (search needs) loop-holds (search needs) (search needs) (search needs) (search needs)
+    (search needs) (search needs) (search needs) (search needs) loop-again (search needs) returns)

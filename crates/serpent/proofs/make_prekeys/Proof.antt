@@ -55,4 +55,6 @@ returns c =
 pub make-prekeys-spec : {M : Type 1} → statement M
 make-prekeys-spec =
     tie.close
-    (tie.spec Inv-loop μ-loop Inv-loop2 μ-loop2 loop-holds (search needs) (search needs) (search needs) (search needs) (search needs) loop-again loop2-holds (search needs) (search needs) (search needs) (search needs) (search needs) (search needs) loop2-again returns)
+    (tie.spec Inv-loop μ-loop Inv-loop2 μ-loop2 loop-holds (search needs) (search needs) (search needs) (search needs)
+    (search needs) loop-again loop2-holds (search needs) (search needs) (search needs) (search needs) (search needs)
+    (search needs) loop2-again returns)

@@ -30,4 +30,5 @@ returns-2 c =
 pub encrypt-block-spec : {M : Type 1} → statement M
 encrypt-block-spec =
     tie.close
-    (tie.spec (search needs) returns (search needs) (search needs) (search needs) (search needs) (search needs) returns-2)
+    (tie.spec (search needs) returns (search needs) (search needs) (search needs) (search needs) (search needs)
+    returns-2)

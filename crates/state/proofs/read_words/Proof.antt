@@ -17,4 +17,5 @@ returns c =
 pub read-words-spec : {M : Type 1} → statement M
 read-words-spec =
     tie.close
-    (tie.spec (search needs) (search needs) (search needs) (search needs) (search needs) (search needs) (search needs) (search needs) returns)
+    (tie.spec (search needs) (search needs) (search needs) (search needs) (search needs) (search needs) (search needs)
+    (search needs) returns)

@@ -10,4 +10,5 @@ returns c = refl
 pub xor-spec : {M : Type 1} → statement M
 xor-spec =
     tie.close
-    (tie.spec (search needs) (search needs) (search needs) (search needs) (search needs) (search needs) (search needs) (search needs) returns)
+    (tie.spec (search needs) (search needs) (search needs) (search needs) (search needs) (search needs) (search needs)
+    (search needs) returns)

@@ -16,4 +16,6 @@ abbrev μ-loop : tie.MeasureT-loop
 pub ecb-spec : {M : Type 1} → statement M
 ecb-spec =
     tie.close
-    (tie.spec Inv-loop μ-loop (search needs) (search needs) (search needs) (search needs) (search needs) (search needs) (search needs) (search needs) (search needs) (search needs) (search needs) (search needs) (search needs) (search needs))
+    (tie.spec Inv-loop μ-loop (search needs) (search needs) (search needs) (search needs) (search needs)
+    (search needs) (search needs) (search needs) (search needs) (search needs) (search needs) (search needs)
+    (search needs) (search needs))

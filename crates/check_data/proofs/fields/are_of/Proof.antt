@@ -16,4 +16,6 @@ abbrev μ-loop : tie.MeasureT-loop
 pub are-of-spec : {M : Type 1} → statement M
 are-of-spec =
     tie.close
-    (tie.spec Inv-loop μ-loop (search needs) (λ c. omega arith) (λ c. omega arith) (λ c. omega arith) (search needs) (search needs) (search needs) (search needs) (λ c. omega arith) (λ c. omega arith) (λ c. omega arith) (λ c. omega arith) (λ c. omega arith) (search needs) (search needs) (search needs) (search needs))
+    (tie.spec Inv-loop μ-loop (search needs) (λ c. omega arith) (λ c. omega arith) (λ c. omega arith) (search needs)
+    (search needs) (search needs) (search needs) (λ c. omega arith) (λ c. omega arith) (λ c. omega arith)
+    (λ c. omega arith) (λ c. omega arith) (search needs) (search needs) (search needs) (search needs))

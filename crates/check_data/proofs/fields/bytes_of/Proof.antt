@@ -23,4 +23,6 @@ returns-4 c = counts _ _ (omega arith)
 pub bytes-of-spec : {M : Type 1} → statement M
 bytes-of-spec =
     tie.close
-    (tie.spec Inv-loop μ-loop (search needs) (λ c. omega arith) (λ c. omega arith) (search needs) (λ c. omega arith) (search needs) (λ c. omega arith) (search needs) (search needs) (search needs) (search needs) (search needs) (search needs) (search needs) loop-less (search needs) (search needs) returns-4)
+    (tie.spec Inv-loop μ-loop (search needs) (λ c. omega arith) (λ c. omega arith) (search needs) (λ c. omega arith)
+    (search needs) (λ c. omega arith) (search needs) (search needs) (search needs) (search needs) (search needs)
+    (search needs) (search needs) loop-less (search needs) (search needs) returns-4)

@@ -16,4 +16,6 @@ abbrev μ-loop : tie.MeasureT-loop
 pub number-of-spec : {M : Type 1} → statement M
 number-of-spec =
     tie.close
-    (tie.spec Inv-loop μ-loop (λ c. omega arith) (λ c. omega arith) (search needs) (search needs) (λ c. omega arith) (search needs) (λ c. omega arith) (λ c. omega arith) (λ c. omega arith) (λ c. omega arith) (λ c. omega arith) (search needs))
+    (tie.spec Inv-loop μ-loop (λ c. omega arith) (λ c. omega arith) (search needs) (search needs) (λ c. omega arith)
+    (search needs) (λ c. omega arith) (λ c. omega arith) (λ c. omega arith) (λ c. omega arith) (λ c. omega arith)
+    (search needs))

@@ -25,4 +25,7 @@ returns-4 c = counts _ _ (omega arith)
 pub repeated-spec : {M : Type 1} → statement M
 repeated-spec =
     tie.close
-    (tie.spec Inv-loop μ-loop (search needs) (search needs) (search needs) (λ c. omega arith) (search needs) (λ c. omega arith) (λ c. omega arith) (λ c. omega arith) (search needs) (search needs) (search needs) (λ c. omega arith) (λ c. omega arith) (λ c. omega arith) (λ c. omega arith) (λ c. omega arith) loop-again (search needs) returns-4)
+    (tie.spec Inv-loop μ-loop (search needs) (search needs) (search needs) (λ c. omega arith) (search needs)
+    (λ c. omega arith) (λ c. omega arith) (λ c. omega arith) (search needs) (search needs) (search needs)
+    (λ c. omega arith) (λ c. omega arith) (λ c. omega arith) (λ c. omega arith) (λ c. omega arith) loop-again
+    (search needs) returns-4)

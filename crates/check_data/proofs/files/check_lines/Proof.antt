@@ -18,4 +18,5 @@ loop-less c = omega (arith, c .after .ensures .1 (c .before .before .before .loo
 pub check-lines-spec : {M : Type 1} → statement M
 check-lines-spec =
     tie.close
-    (tie.spec Inv-loop μ-loop (search needs) (search needs) (search needs) (search needs) loop-less (search needs) (search needs))
+    (tie.spec Inv-loop μ-loop (search needs) (search needs) (search needs) (search needs) loop-less (search needs)
+    (search needs))

@@ -47,4 +47,5 @@ returns c =
 pub store-spec : {M : Type 1} → statement M
 store-spec =
     tie.close
-    (tie.spec Inv-loop μ-loop loop-holds (search needs) (search needs) (search needs) (search needs) (search needs) (search needs) (search needs) loop-again returns)
+    (tie.spec Inv-loop μ-loop loop-holds (search needs) (search needs) (search needs) (search needs) (search needs)
+    (search needs) (search needs) loop-again returns)

@@ -46,4 +46,5 @@ returns-3 c =
 pub apply-s-spec : {M : Type 1} → statement M
 apply-s-spec =
     tie.close
-    (tie.spec returns (search needs) (search needs) (search needs) returns-2 (search needs) (search needs) (search needs) (search needs) returns-3)
+    (tie.spec returns (search needs) (search needs) (search needs) returns-2 (search needs) (search needs)
+    (search needs) (search needs) returns-3)

@@ -28,4 +28,5 @@ returns-2 c =
 pub linear-transform-spec : {M : Type 1} → statement M
 linear-transform-spec =
     tie.close
-    (tie.spec returns (search needs) (search needs) (search needs) (search needs) (search needs) (search needs) (search needs) returns-2)
+    (tie.spec returns (search needs) (search needs) (search needs) (search needs) (search needs) (search needs)
+    (search needs) returns-2)

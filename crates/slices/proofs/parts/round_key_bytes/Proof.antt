@@ -35,4 +35,5 @@ returns c =
 pub round-key-bytes-spec : {M : Type 1} → statement M
 round-key-bytes-spec =
     tie.close
-    (tie.spec Inv-loop μ-loop loop-holds (search needs) (search needs) (search needs) (search needs) (search needs) (search needs) loop-again returns)
+    (tie.spec Inv-loop μ-loop loop-holds (search needs) (search needs) (search needs) (search needs) (search needs)
+    (search needs) loop-again returns)
