@@ -1,6 +1,7 @@
 // Serpent's boxes as word circuits, and its linear transform (src/bitslice.rs of the Rust).
 use answers::DONE;
 use answers::NO_BOX;
+use words::Words;
 use words::rotate_left;
 use words::rotate_right;
 ghost use mathlib.Core.Path.{_≡_};
@@ -8,8 +9,6 @@ ghost use lib.ListN.{replicate};
 ghost use Rattle.bitslice.specs.Boxes.{boxOn, box, inverse, boxWords, boxInvWords};
 ghost use Rattle.bitslice.specs.Chosen.{chosen, applied, appliedInv};
 ghost use Rattle.bitslice.specs.Linear.{linearTransform, linearTransformInv};
-
-pub type Words = [u32; 4];
 
 // What choosing a box answers: the number, and the words that the box gives.
 pub struct Boxed {

@@ -55,8 +55,8 @@ use Rattle.state.proofs.xor.Reads as xor_words
 use Rattle.serpent.proofs.padded_key.Reads as padded_key
 use Rattle.state.proofs.read_words.Reads as read_words
 use Rattle.state.proofs.write_words.Reads as write_words
-use Rattle.state.proofs.s_box.Reads as s_box
-use Rattle.state.proofs.s_box_inv.Reads as s_box_inv
+use Rattle.serpent.proofs.s_box.Reads as s_box
+use Rattle.serpent.proofs.s_box_inv.Reads as s_box_inv
 use Rattle.serpent.proofs.Serpent.key_number.Reads as key_number
 use Rattle.serpent.proofs.Serpent.new_from_slice.Reads as new_from_slice
 use Rattle.serpent.proofs.Serpent.encrypt_block.Reads as encrypt_block

@@ -2,9 +2,9 @@
 use crate::rounds::round_key;
 use crate::rounds::unmixed;
 use crate::rounds::unmixed_last;
-use bitslice::Words;
 use state::read_words;
 use state::write_words;
+use words::Words;
 use words::blocks::block_at;
 use words::blocks::put_block;
 ghost use mathlib.Core.Path.{_≡_};

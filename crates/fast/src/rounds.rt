@@ -1,10 +1,10 @@
 // Eight rounds a turn, each with its box written out: nothing is left to choose while a block goes through.
-use bitslice::Words;
 use bitslice::linear_transform;
 use bitslice::linear_transform_inv;
-use state::s_box;
-use state::s_box_inv;
+use serpent::s_box;
+use serpent::s_box_inv;
 use state::xor;
+use words::Words;
 ghost use mathlib.Core.Path.{_≡_};
 ghost use mathlib.Core.Bool.{cond};
 ghost use Prim.Native.Nat.{_+_, _*_, _≤_, _<_};

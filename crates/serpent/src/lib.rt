@@ -1,16 +1,16 @@
 // The Serpent block cipher (src/lib.rs of the Rust): key setup, and one block each way.
 use answers::DONE;
 use answers::KEY_LENGTH;
-use bitslice::Words;
+use bitslice::apply_s;
+use bitslice::apply_s_inv;
 use bitslice::linear_transform;
 use bitslice::linear_transform_inv;
 use bitslice::round_box;
 use bitslice::round_box_inv;
 use state::read_words;
-use state::s_box;
-use state::s_box_inv;
 use state::write_words;
 use state::xor;
+use words::Words;
 use words::from_le_bytes;
 use words::rotate_left;
 ghost use mathlib.Core.Path.{_≡_};
@@ -18,6 +18,7 @@ ghost use Prim.Native.Nat.{_+_, _*_, _%_, _≤_, _<_};
 ghost use lib.ListN.{length};
 ghost use Rattle.words.specs.Sized.{four};
 ghost use Rattle.words.specs.Bytes.{wordAt, wordsOf};
+ghost use Rattle.bitslice.specs.Boxes.{boxWords, boxInvWords};
 ghost use Rattle.serpent.specs.Words.{stored};
 ghost use Rattle.serpent.specs.Schedule.{padded, prekey, prekeys, boxOfKey, roundKeys};
 ghost use Rattle.serpent.specs.Block.{mix, encryptBytes, decryptBytes};
@@ -58,6 +59,21 @@ pub fn padded_key(source: &[u8]) -> [u8; 32]
         return expand_key(&source[0..32]);
     }
     expand_key(source)
+}
+
+// The words of a box alone: the number that apply_s answers is always DONE, as the index is reduced by 8.
+pub fn s_box(index: usize, words: Words) -> Words
+    ensures { λ r. ⌜ r ≡ boxWords index words ⌝ }
+{
+    let boxed = apply_s(index, words);
+    boxed.words
+}
+
+pub fn s_box_inv(index: usize, words: Words) -> Words
+    ensures { λ r. ⌜ r ≡ boxInvWords index words ⌝ }
+{
+    let boxed = apply_s_inv(index, words);
+    boxed.words
 }
 
 // Four words from place p on, read and stored.

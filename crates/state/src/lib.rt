@@ -1,14 +1,11 @@
-// The state of a block, four words (of the Rust's src/lib.rs): combined, read from bytes and written to them, put through a box.
-use bitslice::Words;
-use bitslice::apply_s;
-use bitslice::apply_s_inv;
+// The state of a block, four words (of the Rust's src/lib.rs): combined, read from bytes and written to them.
+use words::Words;
 use words::from_le_bytes;
 use words::le_byte;
 ghost use mathlib.Core.Path.{_≡_};
 ghost use Prim.Native.Nat.{_+_, _≤_};
 ghost use lib.ListN.{length};
 ghost use Rattle.words.specs.Bytes.{wordAt, wordsOf, bytesOf};
-ghost use Rattle.bitslice.specs.Boxes.{boxWords, boxInvWords};
 ghost use Rattle.state.specs.Words.{xorWords};
 
 pub fn xor(b1: Words, k: Words) -> Words
@@ -45,19 +42,4 @@ pub fn write_words(src: Words) -> [u8; 16]
         dst[k] = le_byte(src[k / 4], k);
     }
     dst
-}
-
-// The words of a box alone: the number that apply_s answers is always DONE, as the index is reduced by 8.
-pub fn s_box(index: usize, words: Words) -> Words
-    ensures { λ r. ⌜ r ≡ boxWords index words ⌝ }
-{
-    let boxed = apply_s(index, words);
-    boxed.words
-}
-
-pub fn s_box_inv(index: usize, words: Words) -> Words
-    ensures { λ r. ⌜ r ≡ boxInvWords index words ⌝ }
-{
-    let boxed = apply_s_inv(index, words);
-    boxed.words
 }

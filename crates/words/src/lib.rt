@@ -6,6 +6,9 @@ ghost use Prim.Native.Nat.{_%_};
 ghost use Rattle.words.specs.Rotation.{rotl, rotr};
 ghost use Rattle.words.specs.Bytes.{wordOf, wordAt, leByte, beWordAt};
 
+// The four words of a block.
+pub type Words = [u32; 4];
+
 // x rotated left by n places, n reduced by 32.
 pub fn rotate_left(x: u32, n: u32) -> u32
     ensures { λ r. ⌜ r ≡ rotl (n % 32) x ⌝ }

@@ -1,10 +1,10 @@
--- `state::s_box_inv` meets its contract: the box is always there. Assumes nothing.
+-- `serpent::s_box_inv` meets its contract: the box is always there. Assumes nothing.
 use mathlib.Core.Path.{ap, _∙_}
 use borrow.Author.Needs.{needs}
 use Rattle.bitslice.specs.declared.Boxed.{Boxed}
 use Rattle.bitslice.proofs.Arms.{chosen-words}
-use Rattle.state.proofs.s_box_inv.Statement.{statement}
-use Rattle.state.proofs.s_box_inv.Tie as tie
+use Rattle.serpent.proofs.s_box_inv.Statement.{statement}
+use Rattle.serpent.proofs.s_box_inv.Tie as tie
 
 returns : tie.Need-returns
 returns c = ap (λ (b : Boxed). b .words) (c .before .apply-s-inv .ensures) ∙ chosen-words (c .before .before .args .index) _
