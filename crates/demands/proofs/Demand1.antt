@@ -101,9 +101,9 @@ NotTaken key = (key < least_key) ⊎ (greatest_key < key)
 -- the number is given exactly when the table says, in its order; a refusal leaves zeros and changes no byte
 pub record Answers : Type 0 where
   -- key setup: 1; the record of a refused key is all zeros
-  pub key_1 : (key : List ℕ) → NotTaken (length key) → keyed key .number ≡ 1
-  pub key_0 : (key : List ℕ) → Taken (length key) → keyed key .number ≡ 0
-  pub key_zeros : (key : List ℕ) → (keyed key .number ≡ 0 → ⊥) → keyed key .cipher .round_keys ≡ replicate 132 0
+  pub key_1 : (key : List ℕ) → NotTaken (length key) → (keyed key).number ≡ 1
+  pub key_0 : (key : List ℕ) → Taken (length key) → (keyed key).number ≡ 0
+  pub key_zeros : (key : List ℕ) → ((keyed key).number ≡ 0 → ⊥) → (keyed key).cipher.round_keys ≡ replicate 132 0
   -- the padded key and the round keys over slices, by the lengths of key, buffer and answer: 1, 5
   pub setup_1 : (key out size : ℕ) → NotTaken key → setup_number key out size ≡ 1
   pub setup_5 : (key out size : ℕ) → Taken key → out < size → setup_number key out size ≡ 5
@@ -150,8 +150,8 @@ pub record Answers : Type 0 where
   pub frame_2 : (frame : List ℕ) → header ≤ length frame → length_field frame ≡ length frame - 4 → version_byte frame ≡ version → ((length frame - header) % 16 ≡ 0 → ⊥) → frame_number frame ≡ 2
   pub frame_4 : (frame : List ℕ) → header ≤ length frame → length_field frame ≡ length frame - 4 → version_byte frame ≡ version → (length frame - header) % 16 ≡ 0 → block_limit < block_count frame → frame_number frame ≡ 4
   pub frame_0 : (frame : List ℕ) → header ≤ length frame → length_field frame ≡ length frame - 4 → version_byte frame ≡ version → (length frame - header) % 16 ≡ 0 → block_count frame ≤ block_limit → frame_number frame ≡ 0
-  pub frame_refused : (frame : List ℕ) → (frame_number frame ≡ 0 → ⊥) → (opened frame .start ≡ replicate 16 0) × (frame_blocks frame ≡ [])
-  pub frame_done : (frame : List ℕ) → frame_number frame ≡ 0 → (opened frame .start ≡ start_of frame) × (frame_blocks frame ≡ cipher_of frame)
+  pub frame_refused : (frame : List ℕ) → (frame_number frame ≡ 0 → ⊥) → ((opened frame).start ≡ replicate 16 0) × (frame_blocks frame ≡ [])
+  pub frame_done : (frame : List ℕ) → frame_number frame ≡ 0 → ((opened frame).start ≡ start_of frame) × (frame_blocks frame ≡ cipher_of frame)
   -- the start block put into a buffer: those of opening, 5
   pub start_frame : (frame : List ℕ) (out n : ℕ) → frame_number frame ≡ suc n → start_number frame out ≡ suc n
   pub start_5 : (frame : List ℕ) (out : ℕ) → frame_number frame ≡ 0 → out < 16 → start_number frame out ≡ 5
@@ -170,12 +170,12 @@ pub record Answers : Type 0 where
   pub window_kept : (key frame : List ℕ) (place count : ℕ) (out : List ℕ) → (window_number (length key) frame place count (length out) ≡ 0 → ⊥) → window_out key frame place count out ≡ out
   pub window_past : (key frame : List ℕ) (place count : ℕ) (out : List ℕ) → window_number (length key) frame place count (length out) ≡ 0 → drop (count * 16) (window_out key frame place count out) ≡ drop (count * 16) out
   -- an event: 2, 10; with either of them every field is zero and the class is idle
-  pub event_2 : (bytes : List ℕ) → (length bytes ≡ 16 → ⊥) → reading bytes .number ≡ 2
-  pub event_10 : (bytes : List ℕ) → length bytes ≡ 16 → readable bytes ≡ false → reading bytes .number ≡ 10
-  pub event_0 : (bytes : List ℕ) → length bytes ≡ 16 → readable bytes ≡ true → (reading bytes .number ≡ 0) × (reading bytes .event ≡ event_of bytes)
-  pub event_zeros : (bytes : List ℕ) → (reading bytes .number ≡ 0 → ⊥) → reading bytes .event ≡ no_event
+  pub event_2 : (bytes : List ℕ) → (length bytes ≡ 16 → ⊥) → (reading bytes).number ≡ 2
+  pub event_10 : (bytes : List ℕ) → length bytes ≡ 16 → readable bytes ≡ false → (reading bytes).number ≡ 10
+  pub event_0 : (bytes : List ℕ) → length bytes ≡ 16 → readable bytes ≡ true → ((reading bytes).number ≡ 0) × ((reading bytes).event ≡ event_of bytes)
+  pub event_zeros : (bytes : List ℕ) → ((reading bytes).number ≡ 0 → ⊥) → (reading bytes).event ≡ no_event
   -- the class that is handed out is never the unreadable one, 5
-  pub event_class : (bytes : List ℕ) → class_number (reading bytes .event .class) ≤ 4
+  pub event_class : (bytes : List ℕ) → class_number (reading bytes).event.class ≤ 4
   -- a search: 1, those of opening, 9, with no field but the number; then 11 with the blocks tried, or the first readable event
   pub search_1 : (key frame : List ℕ) (place : ℕ) → NotTaken (length key) → search_answer key frame place ≡ nothing 1 0
   pub search_frame : (key frame : List ℕ) (place n : ℕ) → Taken (length key) → frame_number frame ≡ suc n → search_answer key frame place ≡ nothing (suc n) 0
@@ -194,9 +194,9 @@ pub record OneAnswer : Type 0 where
   pub from_be_bytes : OneResult the_from_be_bytes.Post
   pub le_byte_lem : OneResult the_le_byte.Post
   pub block_at_lem : OneResult the_block_at.Post
-  pub put_block_out : Determines the_put_block.Post (λ κs x s. s .1 .0 .now)
+  pub put_block_out : Determines the_put_block.Post (λ κs x s. s.1.0.now)
   pub put_answer : OneResult the_put_answer.Post
-  pub put_answer_out : Determines the_put_answer.Post (λ κs x s. s .1 .0 .now)
+  pub put_answer_out : Determines the_put_answer.Post (λ κs x s. s.1.0.now)
   pub linear_transform_lem : OneResult the_linear_transform.Post
   pub linear_transform_inv_lem : OneResult the_linear_transform_inv.Post
   pub apply_s : OneResult the_apply_s.Post
@@ -214,34 +214,34 @@ pub record OneAnswer : Type 0 where
   pub encrypt_block : OneResult the_encrypt_block.Post
   pub decrypt_block : OneResult the_decrypt_block.Post
   pub encrypt_slice : OneResult the_encrypt_slice.Post
-  pub encrypt_slice_out : Determines the_encrypt_slice.Post (λ κs x s. s .1 .1 .0 .now)
+  pub encrypt_slice_out : Determines the_encrypt_slice.Post (λ κs x s. s.1.1.0.now)
   pub decrypt_slice : OneResult the_decrypt_slice.Post
-  pub decrypt_slice_out : Determines the_decrypt_slice.Post (λ κs x s. s .1 .1 .0 .now)
+  pub decrypt_slice_out : Determines the_decrypt_slice.Post (λ κs x s. s.1.1.0.now)
   pub expand_key_slices : OneResult the_parts_expand_key.Post
-  pub expand_key_slices_out : Determines the_parts_expand_key.Post (λ κs x s. s .1 .0 .now)
+  pub expand_key_slices_out : Determines the_parts_expand_key.Post (λ κs x s. s.1.0.now)
   pub new_from_slice_slices : OneResult the_parts_new_from_slice.Post
-  pub new_from_slice_slices_out : Determines the_parts_new_from_slice.Post (λ κs x s. s .1 .0 .now)
+  pub new_from_slice_slices_out : Determines the_parts_new_from_slice.Post (λ κs x s. s.1.0.now)
   pub apply_s_slices : OneResult the_parts_apply_s.Post
-  pub apply_s_slices_out : Determines the_parts_apply_s.Post (λ κs x s. s .1 .1 .0 .now)
+  pub apply_s_slices_out : Determines the_parts_apply_s.Post (λ κs x s. s.1.1.0.now)
   pub apply_s_inv_slices : OneResult the_parts_apply_s_inv.Post
-  pub apply_s_inv_slices_out : Determines the_parts_apply_s_inv.Post (λ κs x s. s .1 .1 .0 .now)
+  pub apply_s_inv_slices_out : Determines the_parts_apply_s_inv.Post (λ κs x s. s.1.1.0.now)
   pub linear_transform_slices : OneResult the_parts_linear_transform.Post
-  pub linear_transform_slices_out : Determines the_parts_linear_transform.Post (λ κs x s. s .1 .0 .now)
+  pub linear_transform_slices_out : Determines the_parts_linear_transform.Post (λ κs x s. s.1.0.now)
   pub linear_transform_inv_slices : OneResult the_parts_linear_transform_inv.Post
-  pub linear_transform_inv_slices_out : Determines the_parts_linear_transform_inv.Post (λ κs x s. s .1 .0 .now)
+  pub linear_transform_inv_slices_out : Determines the_parts_linear_transform_inv.Post (λ κs x s. s.1.0.now)
   pub fast_encrypt_block : OneResult the_fast_encrypt_block.Post
   pub fast_decrypt_block : OneResult the_fast_decrypt_block.Post
   pub decrypt_sixteen : OneResult the_decrypt_sixteen.Post
   pub encrypt_link : OneResult the_encrypt_link.Post
   pub decrypt_link : OneResult the_decrypt_link.Post
   pub encrypt_blocks : OneResult the_encrypt_blocks.Post
-  pub encrypt_blocks_out : Determines the_encrypt_blocks.Post (λ κs x s. s .1 .1 .1 .0 .now)
+  pub encrypt_blocks_out : Determines the_encrypt_blocks.Post (λ κs x s. s.1.1.1.0.now)
   pub decrypt_blocks : OneResult the_decrypt_blocks.Post
-  pub decrypt_blocks_out : Determines the_decrypt_blocks.Post (λ κs x s. s .1 .1 .1 .0 .now)
+  pub decrypt_blocks_out : Determines the_decrypt_blocks.Post (λ κs x s. s.1.1.1.0.now)
   pub encrypt_chain : OneResult the_encrypt_chain.Post
-  pub encrypt_chain_out : Determines the_encrypt_chain.Post (λ κs x s. s .1 .1 .1 .0 .now)
+  pub encrypt_chain_out : Determines the_encrypt_chain.Post (λ κs x s. s.1.1.1.0.now)
   pub decrypt_chain : OneResult the_decrypt_chain.Post
-  pub decrypt_chain_out : Determines the_decrypt_chain.Post (λ κs x s. s .1 .1 .1 .0 .now)
+  pub decrypt_chain_out : Determines the_decrypt_chain.Post (λ κs x s. s.1.1.1.0.now)
   pub classify : OneResult the_classify.Post
   pub class_number_lem : OneResult the_class_number.Post
   pub no_event_lem : OneResult the_no_event.Post
@@ -251,11 +251,11 @@ pub record OneAnswer : Type 0 where
   pub open_frame : OneResult the_opened_frame.Post
   pub frame_blocks_lem : Determines the_frame_blocks.Post (λ κs x s. x.now)
   pub frame_start : OneResult the_frame_start.Post
-  pub frame_start_out : Determines the_frame_start.Post (λ κs x s. s .1 .0 .now)
+  pub frame_start_out : Determines the_frame_start.Post (λ κs x s. s.1.0.now)
   pub frame_place_lem : OneResult the_frame_place.Post
   pub frame_length_lem : OneResult the_frame_length.Post
   pub read_window : OneResult the_read_window.Post
-  pub read_window_out : Determines the_read_window.Post (λ κs x s. s .1 .1 .1 .1 .0 .now)
+  pub read_window_out : Determines the_read_window.Post (λ κs x s. s.1.1.1.1.0.now)
   pub search : OneResult the_search.Post
 
 bytes_size : (words : List ℕ) (n : ℕ) → length (bytes_of words n) ≡ n

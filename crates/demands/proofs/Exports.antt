@@ -47,32 +47,32 @@ use Rattle.timed.proofs.timed_decrypt_blocks.Reads as the_timed_decrypt_blocks
 -- no two unlike results, nor two unlike contents of the lent buffer, meet an export's promise
 pub record OneExport : Type 0 where
   pub expand_key : OneResult the_expand_key.Post
-  pub expand_key_out : Determines the_expand_key.Post (λ κs x s. s .1 .0 .now)
+  pub expand_key_out : Determines the_expand_key.Post (λ κs x s. s.1.0.now)
   pub new_from_slice : OneResult the_new_from_slice.Post
-  pub new_from_slice_out : Determines the_new_from_slice.Post (λ κs x s. s .1 .0 .now)
+  pub new_from_slice_out : Determines the_new_from_slice.Post (λ κs x s. s.1.0.now)
   pub apply_s : OneResult the_apply_s.Post
-  pub apply_s_out : Determines the_apply_s.Post (λ κs x s. s .1 .1 .0 .now)
+  pub apply_s_out : Determines the_apply_s.Post (λ κs x s. s.1.1.0.now)
   pub apply_s_inv : OneResult the_apply_s_inv.Post
-  pub apply_s_inv_out : Determines the_apply_s_inv.Post (λ κs x s. s .1 .1 .0 .now)
+  pub apply_s_inv_out : Determines the_apply_s_inv.Post (λ κs x s. s.1.1.0.now)
   pub linear_transform_lem : OneResult the_linear_transform.Post
-  pub linear_transform_out : Determines the_linear_transform.Post (λ κs x s. s .1 .0 .now)
+  pub linear_transform_out : Determines the_linear_transform.Post (λ κs x s. s.1.0.now)
   pub linear_transform_inv_lem : OneResult the_linear_transform_inv.Post
-  pub linear_transform_inv_out : Determines the_linear_transform_inv.Post (λ κs x s. s .1 .0 .now)
+  pub linear_transform_inv_out : Determines the_linear_transform_inv.Post (λ κs x s. s.1.0.now)
   pub encrypt_block : OneResult the_encrypt_block.Post
-  pub encrypt_block_out : Determines the_encrypt_block.Post (λ κs x s. s .1 .1 .0 .now)
+  pub encrypt_block_out : Determines the_encrypt_block.Post (λ κs x s. s.1.1.0.now)
   pub decrypt_block : OneResult the_decrypt_block.Post
-  pub decrypt_block_out : Determines the_decrypt_block.Post (λ κs x s. s .1 .1 .0 .now)
+  pub decrypt_block_out : Determines the_decrypt_block.Post (λ κs x s. s.1.1.0.now)
   pub encrypt_chain : OneResult the_encrypt_chain.Post
-  pub encrypt_chain_out : Determines the_encrypt_chain.Post (λ κs x s. s .1 .1 .1 .0 .now)
+  pub encrypt_chain_out : Determines the_encrypt_chain.Post (λ κs x s. s.1.1.1.0.now)
   pub decrypt_chain : OneResult the_decrypt_chain.Post
-  pub decrypt_chain_out : Determines the_decrypt_chain.Post (λ κs x s. s .1 .1 .1 .0 .now)
+  pub decrypt_chain_out : Determines the_decrypt_chain.Post (λ κs x s. s.1.1.1.0.now)
   pub open_frame : OneResult the_opened_frame.Post
   pub frame_start : OneResult the_frame_start.Post
-  pub frame_start_out : Determines the_frame_start.Post (λ κs x s. s .1 .0 .now)
+  pub frame_start_out : Determines the_frame_start.Post (λ κs x s. s.1.0.now)
   pub frame_place_lem : OneResult the_frame_place.Post
   pub frame_length_lem : OneResult the_frame_length.Post
   pub read_window : OneResult the_read_window.Post
-  pub read_window_out : Determines the_read_window.Post (λ κs x s. s .1 .1 .1 .1 .0 .now)
+  pub read_window_out : Determines the_read_window.Post (λ κs x s. s.1.1.1.1.0.now)
   pub read_event : OneResult the_read_event.Post
   pub event_wall : OneResult the_event_wall.Post
   pub event_utc : OneResult the_event_utc.Post
@@ -94,13 +94,13 @@ pub record OneExport : Type 0 where
   pub search_inverter : OneResult the_search_inverter.Post
   pub search_sequence : OneResult the_search_sequence.Post
   pub timed_new_from_slice : OneResult the_timed_new_from_slice.Post
-  pub timed_new_from_slice_out : Determines the_timed_new_from_slice.Post (λ κs x s. s .1 .0 .now)
-  pub timed_encrypt_block_out : Determines the_timed_encrypt_block.Post (λ κs x s. s .1 .1 .0 .now)
-  pub timed_decrypt_block_out : Determines the_timed_decrypt_block.Post (λ κs x s. s .1 .1 .0 .now)
+  pub timed_new_from_slice_out : Determines the_timed_new_from_slice.Post (λ κs x s. s.1.0.now)
+  pub timed_encrypt_block_out : Determines the_timed_encrypt_block.Post (λ κs x s. s.1.1.0.now)
+  pub timed_decrypt_block_out : Determines the_timed_decrypt_block.Post (λ κs x s. s.1.1.0.now)
   pub timed_encrypt_blocks : OneResult the_timed_encrypt_blocks.Post
-  pub timed_encrypt_blocks_out : Determines the_timed_encrypt_blocks.Post (λ κs x s. s .1 .1 .1 .0 .now)
+  pub timed_encrypt_blocks_out : Determines the_timed_encrypt_blocks.Post (λ κs x s. s.1.1.1.0.now)
   pub timed_decrypt_blocks : OneResult the_timed_decrypt_blocks.Post
-  pub timed_decrypt_blocks_out : Determines the_timed_decrypt_blocks.Post (λ κs x s. s .1 .1 .1 .0 .now)
+  pub timed_decrypt_blocks_out : Determines the_timed_decrypt_blocks.Post (λ κs x s. s.1.1.1.0.now)
 
 pub one_export : OneExport
 one_export = record {
