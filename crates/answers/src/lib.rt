@@ -1,4 +1,6 @@
 // The numbers that an operation hands back, by their names, and the answer put into a lent buffer. Anything but DONE is a refusal.
+#![tactic(auto)]
+
 ghost use Rattle.std.specs.Prelude.{◌≡◌, length};
 ghost use Rattle.answers.specs.Answers.{room_number, left};
 

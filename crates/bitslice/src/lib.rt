@@ -1,4 +1,6 @@
 // Serpent's boxes as word circuits, and its linear transform (src/bitslice.rs of the Rust).
+#![tactic(auto)]
+
 ghost use Rattle.std.specs.Prelude.{◌≡◌, replicate};
 ghost use Rattle.bitslice.specs.Boxes.{box_on, box, inverse, box_words, box_inv_words};
 ghost use Rattle.bitslice.specs.Chosen.{chosen, applied, applied_inv};

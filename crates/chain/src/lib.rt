@@ -1,4 +1,6 @@
 // The CBC chain: each cipher block is made of its text block and the cipher block before it.
+#![tactic(auto)]
+
 ghost use Rattle.std.specs.Prelude.{◌≡◌, ◌+◌, ◌*◌, ◌≤◌, length};
 ghost use Rattle.answers.specs.Answers.{front, left};
 ghost use Rattle.words.specs.Blocks.{block_at, put_at};

@@ -1,4 +1,6 @@
 // The command on many files, with both its outputs on standard output: listings, sentences and statuses.
+#![tactic(auto)]
+
 fn write(text: &[u8]) {
     io::write_all(libc::STDOUT_FILENO, text);
 }

@@ -1,4 +1,6 @@
 // The same cipher by faster forms, for chains: one block by eight rounds a turn, and sixteen blocks at a time.
+#![tactic(auto)]
+
 mod lanes;
 mod rounds;
 

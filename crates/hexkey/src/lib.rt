@@ -1,4 +1,6 @@
 // A key spelt in hexadecimal digits, read into bytes. White space between the digits is left out.
+#![tactic(auto)]
+
 ghost use Rattle.std.specs.Prelude.{◌≡◌, ◌≤◌, length};
 ghost use Rattle.answers.specs.Answers.{front};
 ghost use Rattle.hexkey.specs.Key.{value, digits, wrong, key_bytes, spelt, key_out};

@@ -1,4 +1,6 @@
 // The Serpent block cipher (src/lib.rs of the Rust): key setup, and one block each way.
+#![tactic(auto)]
+
 ghost use Rattle.std.specs.Prelude.{◌≡◌, ◌+◌, ◌*◌, ◌%◌, ◌≤◌, ◌<◌, length};
 ghost use Rattle.words.specs.Sized.{four};
 ghost use Rattle.words.specs.Bytes.{word_at, words_of};

@@ -1,4 +1,6 @@
 // The cipher over slices: one block under a key, every number and every byte of the output buffer; its parts in `parts`.
+#![tactic(auto)]
+
 pub mod parts;
 
 ghost use Rattle.std.specs.Prelude.{◌≡◌, length};

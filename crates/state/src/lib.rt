@@ -1,4 +1,6 @@
 // The state of a block, four words (of the Rust's src/lib.rs): combined, read from bytes and written to them.
+#![tactic(auto)]
+
 ghost use Rattle.std.specs.Prelude.{◌≡◌, ◌+◌, ◌≤◌, length};
 ghost use Rattle.words.specs.Bytes.{word_at, words_of, bytes_of};
 ghost use Rattle.state.specs.Words.{xor_words};

@@ -1,4 +1,6 @@
 // Key setup, blocks and chains of crates serpent and chain, one thin call each: what make bench times under round keys.
+#![tactic(auto)]
+
 ghost use Rattle.std.specs.Prelude.{◌≡◌, length};
 ghost use Rattle.answers.specs.Answers.{left};
 ghost use Rattle.serpent.specs.Block.{encrypt_bytes, decrypt_bytes};

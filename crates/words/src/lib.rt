@@ -1,4 +1,6 @@
 // What the Rust takes from core: rotations of a word, and words as bytes.
+#![tactic(auto)]
+
 pub mod blocks;
 
 ghost use Rattle.std.specs.Prelude.{◌≡◌, ◌%◌};

@@ -1,0 +1,14 @@
+use mathlib.Core.Path.{◌≡◌, refl, sym, ◌∙◌}
+use Prim.Native.Nat.{◌+◌, ◌-◌, ◌≤◌}
+use native.Mathlib.Numerals.{add-one}
+use native.Mathlib.Omega.{arith}
+use lib.ListN.{length, take, drop, length-set, length-drop}
+use lib.Seq.{get_or-drop, take_all, take-suc}
+use Rattle.words.proofs.Lists.{filled}
+use Rattle.words.proofs.blocks.copied.Given as goal
+
+abbrev pub invariant-loop-j : goal.invariant-loop-j
+invariant-loop-j l = (l.j ≤ 16) × (length l.block ≡ 16) × (take l.j l.block ≡ take l.j (drop l.at l.s))
+
+abbrev pub decreases-loop-j : goal.decreases-loop-j
+decreases-loop-j l = 16 - l.j
