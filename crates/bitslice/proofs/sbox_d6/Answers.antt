@@ -1,13 +1,9 @@
 -- `bitslice::sbox_d6` meets its contract: its circuit, run on truth tables, gives the columns of its table. Assumes nothing.
 use mathlib.Core.Path.{refl}
-use borrow.Author.Rules.{rules}
 use Rattle.bitslice.proofs.Circuits.{columns, circuits, by_table}
-use Rattle.bitslice.proofs.sbox_d6.Statement.{statement}
-use Rattle.bitslice.proofs.sbox_d6.Tie as tie
+use borrow.Author.Rules.{rules}
+use Rattle.bitslice.proofs.sbox_d6.Goals as goal
 
-returns : tie.Need-returns
+pub returns : goal.returns
 unfolding columns
 returns c = by_table (λ i. search rules) _ (search circuits depth 16) refl
-
-pub sbox_d6_spec : {M : Type 1} → statement M
-sbox_d6_spec = tie.close (search (tie.spec, returns, rules))

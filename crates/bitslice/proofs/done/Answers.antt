@@ -2,12 +2,8 @@
 use mathlib.Core.Path.{refl}
 use Rattle.answers.specs.Answers.{on_done}
 use Rattle.bitslice.specs.Chosen.{chosen}
-use Rattle.bitslice.proofs.done.Statement.{statement}
-use Rattle.bitslice.proofs.done.Tie as tie
+use Rattle.bitslice.proofs.done.Goals as goal
 
-returns : tie.Need-returns
+pub returns : goal.returns
 unfolding chosen on_done
 returns c = refl
-
-pub done_spec : {M : Type 1} → statement M
-done_spec = tie.close (tie.spec returns)
