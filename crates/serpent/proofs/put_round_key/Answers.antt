@@ -3,31 +3,24 @@ use mathlib.Core.Path.{◌≡◌, ap, ◌∙◌}
 use mathlib.Core.List.{List}
 use Prim.Native.Nat.{ℕ}
 use native.Mathlib.Omega.{arith}
-use borrow.Author.Rules.{rules}
 use lib.ListN.{length, length-set}
 use Rattle.bitslice.specs.Boxes.{box, box_on}
 use Rattle.serpent.specs.Schedule.{round_key}
 use Rattle.serpent.proofs.Keys.{round_keys_more}
-use Rattle.serpent.proofs.put_round_key.Statement.{statement}
-use Rattle.serpent.proofs.put_round_key.Tie as tie
+use Rattle.serpent.proofs.put_round_key.Goals as goal
 
-returns : tie.Need-returns
+pub returns : goal.returns
 returns c =
-    let boxed = c.before.before in
-    let read = boxed.before in
-    let start = read.before.before in
+    let boxed = c in
+    let read = boxed in
+    let start = read in
     let a = start.args in
-    let output = boxed.s_box.result in
-    let four : length output ≡ 4 = boxed.s_box.type-inv.1.0.1 in
+    let output = boxed.s_box-output.result in
+    let four : length output ≡ 4 = boxed.s_box-output.type_inv.1.0.1 in
     let key : output ≡ round_key a.words.now a.i =
-    boxed.s_box.ensures ∙ ap (λ (n : ℕ). box_on (box n) read.four-words.result) start.requires.1 ∙ ap (box_on _) read.four-words.ensures in
+    boxed.s_box-output.ensures ∙ ap (λ (n : ℕ). box_on (box n) read.four_words-s.result) start.requires.1 ∙ ap (box_on _) read.four_words-s.ensures in
     rw c.store_words.ensures
     (record {
       size = simp length-set start.requires.2.size;
       done = round_keys_more _ _ a.i output (omega (arith, start.requires, start.requires.2.size)) four start.requires.2.done key;
     })
-
-pub put_round_key_spec : {M : Type 1} → statement M
-put_round_key_spec =
-    tie.close
-    (tie.spec (search rules) (search rules) (search rules) (search rules) (search rules) (search rules) returns)

@@ -1,0 +1,12 @@
+use mathlib.Core.Path.{◌≡◌, ap, ◌∙◌}
+use Prim.Native.Nat.{suc, ◌+◌, ◌-◌, ◌≤◌}
+use native.Mathlib.Omega.{arith}
+use Rattle.bitslice.specs.Boxes.{box_inv_words}
+use Rattle.serpent.specs.Block.{mix, unround, unrounds, decrypt_words, decrypt_bytes}
+use Rattle.serpent.proofs.Serpent.decrypt_block.Given as goal
+
+abbrev pub invariant-loop-n : goal.invariant-loop-n
+invariant-loop-n l = (l.n ≤ 31) × (unrounds l.round_keys (31 - l.n) l.b ≡ unrounds l.round_keys 31 l.initial.b)
+
+abbrev pub decreases-loop-n : goal.decreases-loop-n
+decreases-loop-n l = 31 - l.n

@@ -1,0 +1,24 @@
+use mathlib.Core.Path.{◌≡◌, refl}
+use Prim.Native.Nat.{◌+◌, ◌-◌, ◌≤◌}
+use native.Mathlib.Omega.{arith}
+use lib.ListN.{length, take, length-set}
+use lib.Seq.{take_all}
+use Rattle.words.specs.Sized.{list_of}
+use Rattle.words.specs.Bytes.{words_of}
+use Rattle.words.proofs.Lists.{built}
+use Rattle.serpent.specs.Schedule.{prekeys}
+use Rattle.serpent.proofs.Keys.{prekeys_more}
+use borrow.Author.Rules.{rules}
+use Rattle.serpent.proofs.make_prekeys.Given as goal
+
+abbrev pub invariant-loop-i : goal.invariant-loop-i
+invariant-loop-i l = (l.i ≤ 8) × (length l.words ≡ 140) × (take l.i l.words ≡ words_of l.key l.i)
+
+abbrev pub decreases-loop-i : goal.decreases-loop-i
+decreases-loop-i l = 8 - l.i
+
+abbrev pub invariant-loop-i-2 : goal.invariant-loop-i-2
+invariant-loop-i-2 l = (l.i ≤ 132) × (length l.words ≡ 140) × (take (l.i + 8) l.words ≡ prekeys (take 8 l.initial.words) l.i)
+
+abbrev pub decreases-loop-i-2 : goal.decreases-loop-i-2
+decreases-loop-i-2 l = 132 - l.i
