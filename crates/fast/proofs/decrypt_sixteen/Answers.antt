@@ -1,0 +1,15 @@
+-- `fast::decrypt_sixteen` meets its contract: sixteen blocks loaded, each lane deciphered, and stored. Assumes nothing.
+use mathlib.Core.Path.{◌∙◌}
+use native.Mathlib.Omega.{arith}
+use Rattle.fast.proofs.Sixteen.{each_deciphered}
+use borrow.Author.Rules.{rules}
+use Rattle.fast.proofs.decrypt_sixteen.Goals as goal
+
+pub decrypt_each-requires : goal.decrypt_each-requires
+decrypt_each-requires c = c.load-w.ensures.size
+
+pub returns : goal.returns
+returns c =
+    let went = c in
+    let loaded = went in
+    c.store.ensures ∙ each_deciphered _ _ loaded.load-w.ensures went.decrypt_each.ensures 16 (search rules)

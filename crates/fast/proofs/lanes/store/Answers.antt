@@ -1,0 +1,37 @@
+-- `lanes::store` meets its contract: after j turns the bytes of the lanes below j stand in front. Assumes nothing.
+use mathlib.Core.Path.{◌≡◌, refl, sym, ap, ◌∙◌}
+use mathlib.Core.List.{List, ◌++◌}
+use Prim.Native.Nat.{ℕ, ◌+◌, ◌-◌, ◌≤◌}
+use native.Mathlib.Omega.{arith}
+use lib.ListN.{length, replicate}
+use lib.Seq.{take_all}
+use Rattle.words.specs.Bytes.{bytes_of}
+use Rattle.words.specs.Filled.{Filled}
+use Rattle.words.proofs.Filled.{filled_none, filled_more}
+use Rattle.fast.specs.Lanes.{lane, lane_bytes}
+use Rattle.fast.proofs.Sixteen.{lane_bytes_more}
+use Rattle.fast.proofs.lanes.store.Goals as goal
+
+pub loop-j-init : goal.loop-j-init
+unfolding lane_bytes
+loop-j-init c = (omega arith, refl, filled_none _)
+
+pub loop-j-preserved : goal.loop-j-preserved
+loop-j-preserved c =
+    let put = c in
+    let wrote = put in
+    let read = wrote in
+    let at-loop = read in
+    let at = at-loop.loop-j in
+    let w = at-loop.args.w.now in
+    let bytes = wrote.write_words-x.result in
+    let size : length bytes ≡ 16 = wrote.write_words-x.type_inv.1.0.1 in
+    let same : bytes ≡ bytes_of (lane w at.j) 16 = wrote.write_words-x.ensures ∙ ap (λ (x : List ℕ). bytes_of x 16) read.lane.ensures in
+    let more = filled_more _ at.out at.j (lane_bytes w at.j) bytes at.invariant.2 size (omega (arith, at.invariant.1)) in
+    rw put.put_block.ensures (omega arith, more.size ∙ refl, rw (lane_bytes_more w at.j, ← same) more)
+
+pub returns : goal.returns
+returns c =
+    let at = c.loop-j in
+    let e : at.j ≡ 16 = omega arith in
+    sym (take_all 256 _ (omega (arith, at.invariant.1))) ∙ (rw e at at.invariant.2.written)

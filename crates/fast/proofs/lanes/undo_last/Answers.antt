@@ -1,0 +1,31 @@
+-- `lanes::undo_last` meets its contract: lanes below j are done. Assumes nothing.
+use mathlib.Core.Path.{refl, ap, ◌∙◌}
+use mathlib.Core.List.{List}
+use Prim.Native.Nat.{ℕ, ◌-◌}
+use native.Mathlib.Omega.{arith}
+use Rattle.serpent.specs.Block.{unround}
+use Rattle.fast.specs.Turns.{unlast}
+use Rattle.fast.proofs.Sixteen.{Going, none_yet, next_lane, all_done}
+use Rattle.fast.proofs.Unmixed.{undoes, undoes_last}
+use borrow.Author.Rules.{rules}
+use Rattle.fast.proofs.lanes.undo_last.Goals as goal
+
+pub loop-j-init : goal.loop-j-init
+loop-j-init c = none_yet _ _ (search rules)
+
+pub loop-j-preserved : goal.loop-j-preserved
+loop-j-preserved c =
+    let second = c in
+    let first = second in
+    let read = first in
+    let at-loop = read in
+    let low = at-loop in
+    let up = low in
+    let last = up in
+    next_lane _ _ _ _ at-loop.loop-j.invariant (omega arith) second.unmixed-z.type_inv.1.0.1 read.lane-x.ensures
+    (second.unmixed-z.ensures ∙ undoes _ 30 6 _ refl low.round_key-lower.ensures
+    ∙ ap (unround _ 30) (first.unmixed_last-y.ensures ∙ undoes_last _ _ up.round_key-upper.ensures last.round_key-after.ensures))
+    c.put_lane.ensures
+
+pub returns : goal.returns
+returns c = all_done _ c.loop-j.invariant (omega arith)

@@ -1,0 +1,28 @@
+-- `slices::encrypt_block` meets its contract: a refusal writes nothing, and with number 0 the block fills the first bytes. Assumes nothing.
+use mathlib.Core.Path.{sym, ◌∙◌}
+use Rattle.answers.proofs.Answers.{left_refused}
+use Rattle.serpent.specs.Block.{encrypt_bytes}
+use Rattle.serpent.proofs.Lengths.{encrypted_sixteen}
+use Rattle.slices.proofs.OneBlock.{written}
+use Rattle.slices.proofs.encrypt_block.Goals as goal
+
+pub returns-then-number-ne-DONE : goal.returns-then-number-ne-DONE
+returns-then-number-ne-DONE c =
+    let n = c.block_number-number.ensures in record {
+      number = n;
+      written = sym (left_refused _ _ (λ z. c.if-number-ne-DONE.true (n ∙ z)));
+    }
+
+pub returns : goal.returns
+returns c =
+    let put = c in
+    let made = put in
+    let read = made in
+    let keyed = read in
+    let tested = keyed in
+    let n = tested.block_number-number.ensures in
+    let a = tested.args in record {
+      number = n;
+      written = written encrypt_bytes encrypted_sixteen a.key.now _ _ n tested.if-number-ne-DONE.false keyed.new_from_slice-keyed.ensures read.block_at.ensures
+          made.encrypt_block-cipher.ensures put.put_block.ensures;
+    }
