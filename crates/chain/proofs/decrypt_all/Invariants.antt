@@ -1,0 +1,32 @@
+use Prim.Native.Nat.{ℕ, ◌+◌, ◌-◌, ◌*◌, ◌/◌, ◌≤◌, ◌<◌}
+use mathlib.Core.Path.{◌≡◌, refl, sym, ap, ◌∙◌}
+use mathlib.Core.List.{List}
+use native.Mathlib.Omega.{arith}
+use lib.ListN.{length}
+use Rattle.words.specs.Blocks.{block_at}
+use Rattle.words.proofs.Places.{block_there}
+use Rattle.words.proofs.Filled.{filled_none}
+use Rattle.serpent.specs.Block.{decrypt_bytes}
+use Rattle.chain.specs.Chain.{xor, last_or, blocks, decipher, join}
+use Rattle.chain.specs.Slices.{deciphered}
+use Rattle.chain.proofs.Blocks.{block}
+use Rattle.chain.proofs.Xors.{length-xor}
+use Rattle.chain.proofs.Buffers.{filled_all}
+use Rattle.chain.specs.Turns.{At, Onward}
+use Rattle.chain.proofs.Turns.{onward_none, onward_then, onward_to, onward_one}
+use borrow.Author.Rules.{rules}
+use Rattle.chain.proofs.decrypt_all.Given as goal
+
+-- sixteen blocks a turn
+abbrev pub invariant-loop-s : goal.invariant-loop-s
+invariant-loop-s l = (l.s ≤ l.s-end) × (length l.before ≡ 16) × Onward (decrypt_bytes l.round_keys) l.cipher l.initial.out l.initial.before 0 l.out l.before (l.s * 16)
+
+abbrev pub decreases-loop-s : goal.decreases-loop-s
+decreases-loop-s l = l.s-end - l.s
+
+-- those that are left
+abbrev pub invariant-loop-i : goal.invariant-loop-i
+invariant-loop-i l = (l.i ≤ l.blocks) × (length l.before ≡ 16) × Onward (decrypt_bytes l.round_keys) l.cipher l.initial.out l.initial.before l.initial.i l.out l.before l.i
+
+abbrev pub decreases-loop-i : goal.decreases-loop-i
+decreases-loop-i l = l.blocks - l.i

@@ -1,0 +1,16 @@
+use mathlib.Core.Path.{◌≡◌, refl, sym, ◌∙◌}
+use Prim.Native.Nat.{◌+◌, ◌-◌, ◌≤◌}
+use native.Mathlib.Numerals.{add-one}
+use native.Mathlib.Omega.{arith}
+use lib.ListN.{length, take, length-set}
+use lib.Seq.{take_all, take-suc}
+use Rattle.words.proofs.Lists.{filled}
+use Rattle.chain.specs.Chain.{xor}
+use Rattle.chain.proofs.Xors.{get_or-xor, length-xor}
+use Rattle.chain.proofs.xor_block.Given as goal
+
+abbrev pub invariant-loop-j : goal.invariant-loop-j
+invariant-loop-j l = (l.j ≤ 16) × (length l.r ≡ 16) × (take l.j l.r ≡ take l.j (xor l.a l.b))
+
+abbrev pub decreases-loop-j : goal.decreases-loop-j
+decreases-loop-j l = 16 - l.j
