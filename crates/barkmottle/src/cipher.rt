@@ -4,8 +4,7 @@ ghost use Rattle.slices.specs.Parts.{setup_number, padded_out, round_keys_out, b
 ghost use Rattle.slices.specs.Blocks.{block_number, encrypted_out, decrypted_out};
 
 // The padded key, 32 bytes: 1 5.
-#[unsafe(no_mangle)]
-pub extern "C" fn barkmottle_expand_key(key: &[u8], out: &mut [u8]) -> u32
+pub fn barkmottle_expand_key(key: &[u8], out: &mut [u8]) -> u32
     ensures number { result ≡ setup_number (length key.now) (length out.old) 32 }
     ensures written { out.new ≡ padded_out key.now out.old }
 {
@@ -13,8 +12,7 @@ pub extern "C" fn barkmottle_expand_key(key: &[u8], out: &mut [u8]) -> u32
 }
 
 // The round keys, 528 bytes of little-endian words: 1 5.
-#[unsafe(no_mangle)]
-pub extern "C" fn barkmottle_new_from_slice(key: &[u8], out: &mut [u8]) -> u32
+pub fn barkmottle_new_from_slice(key: &[u8], out: &mut [u8]) -> u32
     ensures number { result ≡ setup_number (length key.now) (length out.old) 528 }
     ensures written { out.new ≡ round_keys_out key.now out.old }
 {
@@ -22,8 +20,7 @@ pub extern "C" fn barkmottle_new_from_slice(key: &[u8], out: &mut [u8]) -> u32
 }
 
 // A box on four little-endian words, 16 bytes: 2 8 5.
-#[unsafe(no_mangle)]
-pub extern "C" fn barkmottle_apply_s(index: usize, words: &[u8], out: &mut [u8]) -> u32
+pub fn barkmottle_apply_s(index: usize, words: &[u8], out: &mut [u8]) -> u32
     ensures number { result ≡ boxed_number index (length words.now) (length out.old) }
     ensures written { out.new ≡ boxed_out index words.now out.old }
 {
@@ -31,8 +28,7 @@ pub extern "C" fn barkmottle_apply_s(index: usize, words: &[u8], out: &mut [u8])
 }
 
 // The inverse of a box, 16 bytes: 2 8 5.
-#[unsafe(no_mangle)]
-pub extern "C" fn barkmottle_apply_s_inv(index: usize, words: &[u8], out: &mut [u8]) -> u32
+pub fn barkmottle_apply_s_inv(index: usize, words: &[u8], out: &mut [u8]) -> u32
     ensures number { result ≡ boxed_number index (length words.now) (length out.old) }
     ensures written { out.new ≡ boxed_inv_out index words.now out.old }
 {
@@ -40,8 +36,7 @@ pub extern "C" fn barkmottle_apply_s_inv(index: usize, words: &[u8], out: &mut [
 }
 
 // The linear transform of four words, 16 bytes: 2 5.
-#[unsafe(no_mangle)]
-pub extern "C" fn barkmottle_linear_transform(words: &[u8], out: &mut [u8]) -> u32
+pub fn barkmottle_linear_transform(words: &[u8], out: &mut [u8]) -> u32
     ensures number { result ≡ words_number (length words.now) (length out.old) }
     ensures written { out.new ≡ linear_out words.now out.old }
 {
@@ -49,8 +44,7 @@ pub extern "C" fn barkmottle_linear_transform(words: &[u8], out: &mut [u8]) -> u
 }
 
 // Its inverse, 16 bytes: 2 5.
-#[unsafe(no_mangle)]
-pub extern "C" fn barkmottle_linear_transform_inv(words: &[u8], out: &mut [u8]) -> u32
+pub fn barkmottle_linear_transform_inv(words: &[u8], out: &mut [u8]) -> u32
     ensures number { result ≡ words_number (length words.now) (length out.old) }
     ensures written { out.new ≡ linear_inv_out words.now out.old }
 {
@@ -58,8 +52,7 @@ pub extern "C" fn barkmottle_linear_transform_inv(words: &[u8], out: &mut [u8]) 
 }
 
 // One block enciphered, 16 bytes: 1 2 5.
-#[unsafe(no_mangle)]
-pub extern "C" fn barkmottle_encrypt_block(key: &[u8], block: &[u8], out: &mut [u8]) -> u32
+pub fn barkmottle_encrypt_block(key: &[u8], block: &[u8], out: &mut [u8]) -> u32
     ensures number { result ≡ block_number (length key.now) (length block.now) (length out.old) }
     ensures written { out.new ≡ encrypted_out key.now block.now out.old }
 {
@@ -67,8 +60,7 @@ pub extern "C" fn barkmottle_encrypt_block(key: &[u8], block: &[u8], out: &mut [
 }
 
 // One block deciphered, 16 bytes: 1 2 5.
-#[unsafe(no_mangle)]
-pub extern "C" fn barkmottle_decrypt_block(key: &[u8], block: &[u8], out: &mut [u8]) -> u32
+pub fn barkmottle_decrypt_block(key: &[u8], block: &[u8], out: &mut [u8]) -> u32
     ensures number { result ≡ block_number (length key.now) (length block.now) (length out.old) }
     ensures written { out.new ≡ decrypted_out key.now block.now out.old }
 {

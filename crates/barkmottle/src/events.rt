@@ -6,8 +6,7 @@ ghost use Rattle.event.specs.Read.{reading};
 use crate::fields;
 
 // Whether an event is readable: 2 10.
-#[unsafe(no_mangle)]
-pub extern "C" fn barkmottle_read_event(event: &[u8]) -> u32
+pub fn barkmottle_read_event(event: &[u8]) -> u32
     ensures { result ≡ (reading event.now).number }
 {
     let read = event::read_event(event);
@@ -15,8 +14,7 @@ pub extern "C" fn barkmottle_read_event(event: &[u8]) -> u32
 }
 
 // Wall-clock seconds since 2000-01-01 00:00; 0 where reading refuses.
-#[unsafe(no_mangle)]
-pub extern "C" fn barkmottle_event_wall(event: &[u8]) -> i64
+pub fn barkmottle_event_wall(event: &[u8]) -> i64
     ensures { result ≡ (reading event.now).event.wall.0 }
 {
     let read = event::read_event(event);
@@ -25,8 +23,7 @@ pub extern "C" fn barkmottle_event_wall(event: &[u8]) -> i64
 }
 
 // UTC seconds since 2000-01-01 00:00; 0 where reading refuses.
-#[unsafe(no_mangle)]
-pub extern "C" fn barkmottle_event_utc(event: &[u8]) -> i64
+pub fn barkmottle_event_utc(event: &[u8]) -> i64
     ensures { result ≡ (reading event.now).event.utc.0 }
 {
     let read = event::read_event(event);
@@ -35,8 +32,7 @@ pub extern "C" fn barkmottle_event_utc(event: &[u8]) -> i64
 }
 
 // The offset from UTC in quarter hours; 0 where reading refuses.
-#[unsafe(no_mangle)]
-pub extern "C" fn barkmottle_event_offset(event: &[u8]) -> i32
+pub fn barkmottle_event_offset(event: &[u8]) -> i32
     ensures { result ≡ (reading event.now).event.offset }
 {
     let read = event::read_event(event);
@@ -45,8 +41,7 @@ pub extern "C" fn barkmottle_event_offset(event: &[u8]) -> i32
 }
 
 // The value; 0 where reading refuses.
-#[unsafe(no_mangle)]
-pub extern "C" fn barkmottle_event_value(event: &[u8]) -> i32
+pub fn barkmottle_event_value(event: &[u8]) -> i32
     ensures { result ≡ (reading event.now).event.value }
 {
     let read = event::read_event(event);
@@ -55,8 +50,7 @@ pub extern "C" fn barkmottle_event_value(event: &[u8]) -> i32
 }
 
 // The kind byte; 0 where reading refuses.
-#[unsafe(no_mangle)]
-pub extern "C" fn barkmottle_event_kind(event: &[u8]) -> u32
+pub fn barkmottle_event_kind(event: &[u8]) -> u32
     ensures { result ≡ (reading event.now).event.kind }
 {
     let read = event::read_event(event);
@@ -65,8 +59,7 @@ pub extern "C" fn barkmottle_event_kind(event: &[u8]) -> u32
 }
 
 // The number of the class; 0 where reading refuses.
-#[unsafe(no_mangle)]
-pub extern "C" fn barkmottle_event_class(event: &[u8]) -> u32
+pub fn barkmottle_event_class(event: &[u8]) -> u32
     ensures { result ≡ class_number (reading event.now).event.class }
 {
     let read = event::read_event(event);
@@ -75,8 +68,7 @@ pub extern "C" fn barkmottle_event_class(event: &[u8]) -> u32
 }
 
 // The inverter; 0 where reading refuses.
-#[unsafe(no_mangle)]
-pub extern "C" fn barkmottle_event_inverter(event: &[u8]) -> u32
+pub fn barkmottle_event_inverter(event: &[u8]) -> u32
     ensures { result ≡ (reading event.now).event.inverter }
 {
     let read = event::read_event(event);
@@ -85,8 +77,7 @@ pub extern "C" fn barkmottle_event_inverter(event: &[u8]) -> u32
 }
 
 // The sequence; 0 where reading refuses.
-#[unsafe(no_mangle)]
-pub extern "C" fn barkmottle_event_sequence(event: &[u8]) -> u32
+pub fn barkmottle_event_sequence(event: &[u8]) -> u32
     ensures { result ≡ (reading event.now).event.sequence }
 {
     let read = event::read_event(event);

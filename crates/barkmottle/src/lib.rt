@@ -1,4 +1,4 @@
-// What a host in C calls, one thin call each; include/barkmottle.h declares it. A slice is a pointer and then a length.
+// What a host in C calls, one thin call each. Crate barkmottle_c exports it.
 #![tactic(auto)]
 
 pub mod cipher;

@@ -6,8 +6,7 @@ ghost use Rattle.search.specs.Search.{search_answer};
 use crate::fields;
 
 // Whether there is a readable event at or after a place: 1 6 7 2 4 9 11.
-#[unsafe(no_mangle)]
-pub extern "C" fn barkmottle_search(key: &[u8], frame: &[u8], place: usize) -> u32
+pub fn barkmottle_search(key: &[u8], frame: &[u8], place: usize) -> u32
     ensures { result ≡ (search_answer key.now frame.now place).number }
 {
     let found = search::search(key, frame, place);
@@ -15,8 +14,7 @@ pub extern "C" fn barkmottle_search(key: &[u8], frame: &[u8], place: usize) -> u
 }
 
 // The place of the found event; 0 where there is none.
-#[unsafe(no_mangle)]
-pub extern "C" fn barkmottle_search_place(key: &[u8], frame: &[u8], place: usize) -> usize
+pub fn barkmottle_search_place(key: &[u8], frame: &[u8], place: usize) -> usize
     ensures { result ≡ (search_answer key.now frame.now place).place }
 {
     let found = search::search(key, frame, place);
@@ -24,8 +22,7 @@ pub extern "C" fn barkmottle_search_place(key: &[u8], frame: &[u8], place: usize
 }
 
 // The blocks tried, also where there is no readable event; 0 with any other refusal.
-#[unsafe(no_mangle)]
-pub extern "C" fn barkmottle_search_tries(key: &[u8], frame: &[u8], place: usize) -> usize
+pub fn barkmottle_search_tries(key: &[u8], frame: &[u8], place: usize) -> usize
     ensures { result ≡ (search_answer key.now frame.now place).tries }
 {
     let found = search::search(key, frame, place);
@@ -33,8 +30,7 @@ pub extern "C" fn barkmottle_search_tries(key: &[u8], frame: &[u8], place: usize
 }
 
 // Wall-clock seconds since 2000-01-01 00:00 of the found event.
-#[unsafe(no_mangle)]
-pub extern "C" fn barkmottle_search_wall(key: &[u8], frame: &[u8], place: usize) -> i64
+pub fn barkmottle_search_wall(key: &[u8], frame: &[u8], place: usize) -> i64
     ensures { result ≡ (search_answer key.now frame.now place).event.wall.0 }
 {
     let found = search::search(key, frame, place);
@@ -43,8 +39,7 @@ pub extern "C" fn barkmottle_search_wall(key: &[u8], frame: &[u8], place: usize)
 }
 
 // UTC seconds since 2000-01-01 00:00 of the found event.
-#[unsafe(no_mangle)]
-pub extern "C" fn barkmottle_search_utc(key: &[u8], frame: &[u8], place: usize) -> i64
+pub fn barkmottle_search_utc(key: &[u8], frame: &[u8], place: usize) -> i64
     ensures { result ≡ (search_answer key.now frame.now place).event.utc.0 }
 {
     let found = search::search(key, frame, place);
@@ -53,8 +48,7 @@ pub extern "C" fn barkmottle_search_utc(key: &[u8], frame: &[u8], place: usize) 
 }
 
 // The offset from UTC in quarter hours of the found event.
-#[unsafe(no_mangle)]
-pub extern "C" fn barkmottle_search_offset(key: &[u8], frame: &[u8], place: usize) -> i32
+pub fn barkmottle_search_offset(key: &[u8], frame: &[u8], place: usize) -> i32
     ensures { result ≡ (search_answer key.now frame.now place).event.offset }
 {
     let found = search::search(key, frame, place);
@@ -63,8 +57,7 @@ pub extern "C" fn barkmottle_search_offset(key: &[u8], frame: &[u8], place: usiz
 }
 
 // The value of the found event.
-#[unsafe(no_mangle)]
-pub extern "C" fn barkmottle_search_value(key: &[u8], frame: &[u8], place: usize) -> i32
+pub fn barkmottle_search_value(key: &[u8], frame: &[u8], place: usize) -> i32
     ensures { result ≡ (search_answer key.now frame.now place).event.value }
 {
     let found = search::search(key, frame, place);
@@ -73,8 +66,7 @@ pub extern "C" fn barkmottle_search_value(key: &[u8], frame: &[u8], place: usize
 }
 
 // The kind byte of the found event.
-#[unsafe(no_mangle)]
-pub extern "C" fn barkmottle_search_kind(key: &[u8], frame: &[u8], place: usize) -> u32
+pub fn barkmottle_search_kind(key: &[u8], frame: &[u8], place: usize) -> u32
     ensures { result ≡ (search_answer key.now frame.now place).event.kind }
 {
     let found = search::search(key, frame, place);
@@ -83,8 +75,7 @@ pub extern "C" fn barkmottle_search_kind(key: &[u8], frame: &[u8], place: usize)
 }
 
 // The number of the class of the found event.
-#[unsafe(no_mangle)]
-pub extern "C" fn barkmottle_search_class(key: &[u8], frame: &[u8], place: usize) -> u32
+pub fn barkmottle_search_class(key: &[u8], frame: &[u8], place: usize) -> u32
     ensures { result ≡ class_number (search_answer key.now frame.now place).event.class }
 {
     let found = search::search(key, frame, place);
@@ -93,8 +84,7 @@ pub extern "C" fn barkmottle_search_class(key: &[u8], frame: &[u8], place: usize
 }
 
 // The inverter of the found event.
-#[unsafe(no_mangle)]
-pub extern "C" fn barkmottle_search_inverter(key: &[u8], frame: &[u8], place: usize) -> u32
+pub fn barkmottle_search_inverter(key: &[u8], frame: &[u8], place: usize) -> u32
     ensures { result ≡ (search_answer key.now frame.now place).event.inverter }
 {
     let found = search::search(key, frame, place);
@@ -103,8 +93,7 @@ pub extern "C" fn barkmottle_search_inverter(key: &[u8], frame: &[u8], place: us
 }
 
 // The sequence of the found event.
-#[unsafe(no_mangle)]
-pub extern "C" fn barkmottle_search_sequence(key: &[u8], frame: &[u8], place: usize) -> u32
+pub fn barkmottle_search_sequence(key: &[u8], frame: &[u8], place: usize) -> u32
     ensures { result ≡ (search_answer key.now frame.now place).event.sequence }
 {
     let found = search::search(key, frame, place);

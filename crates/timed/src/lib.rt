@@ -10,8 +10,7 @@ ghost use Rattle.chain.specs.Slices.{enciphered, deciphered, blocks_number};
 use serpent::Serpent;
 
 // Key setup: its number, and the round keys, which are zeros where the key is refused.
-#[unsafe(no_mangle)]
-pub extern "C" fn timed_new_from_slice(key: &[u8], round_keys: &mut [u32; 132]) -> u32
+pub fn timed_new_from_slice(key: &[u8], round_keys: &mut [u32; 132]) -> u32
     ensures number { result ≡ (keyed key.now).number }
     ensures written { round_keys.new ≡ (keyed key.now).cipher.round_keys }
 {
@@ -23,24 +22,21 @@ pub extern "C" fn timed_new_from_slice(key: &[u8], round_keys: &mut [u32; 132]) 
 }
 
 // One block enciphered.
-#[unsafe(no_mangle)]
-pub extern "C" fn timed_encrypt_block(round_keys: &[u32; 132], block: &[u8; 16], out: &mut [u8; 16])
+pub fn timed_encrypt_block(round_keys: &[u32; 132], block: &[u8; 16], out: &mut [u8; 16])
     ensures { out.new ≡ encrypt_bytes round_keys.now block.now }
 {
     *out = Serpent::encrypt_block(round_keys, *block);
 }
 
 // One block deciphered.
-#[unsafe(no_mangle)]
-pub extern "C" fn timed_decrypt_block(round_keys: &[u32; 132], block: &[u8; 16], out: &mut [u8; 16])
+pub fn timed_decrypt_block(round_keys: &[u32; 132], block: &[u8; 16], out: &mut [u8; 16])
     ensures { out.new ≡ decrypt_bytes round_keys.now block.now }
 {
     *out = Serpent::decrypt_block(round_keys, *block);
 }
 
 // A chain enciphered, of any number of blocks: 2 5.
-#[unsafe(no_mangle)]
-pub extern "C" fn timed_encrypt_blocks(
+pub fn timed_encrypt_blocks(
     round_keys: &[u32; 132],
     text: &[u8],
     start: &[u8; 16],
@@ -53,8 +49,7 @@ pub extern "C" fn timed_encrypt_blocks(
 }
 
 // A chain deciphered: 2 5.
-#[unsafe(no_mangle)]
-pub extern "C" fn timed_decrypt_blocks(
+pub fn timed_decrypt_blocks(
     round_keys: &[u32; 132],
     cipher: &[u8],
     start: &[u8; 16],
