@@ -10,21 +10,9 @@ ARCHIVE = target/staticlib/libbarkmottle.a
 TIMED = target/staticlib/libtimed.a
 GATELOG = target/gatelog
 
-# The kit's own part in C, for programs that open files.
-KIT = $(patsubst %/docs/START-HERE.md,%,$(shell rt doc))
-
-# Checks at a time: one more than processors, and at most five, so that no processor waits while a long check ends.
-export RT_JOBS ?= $(shell nproc | awk '{ print ($$1 < 4 ? $$1 : 4) + 1 }')
-
-# What the two are made of. They are made one after the other, since both work in target/.
-SOURCES = crates.txt $(shell find crates -name '*.rt' -o -name '*.antt')
+# What all of them are made of. They are made one after the other, since rt works in a crate and those below it alone.
+SOURCES = crates.txt $(shell find crates -name out -prune -o \( -name '*.rt' -o -name '*.antt' \) -print)
 .NOTPARALLEL:
-
-# The crates right below archives, after crates.txt. `rt staticlib` proves those that are not proved yet one after the
-# other, `rt check` several at a time: so it goes first. One does for both archives where both are asked for.
-behind = $(foreach archive,$(1),$(shell sed -n 's/^$(archive)://p' crates.txt))
-below = $(sort $(filter $(notdir $(wildcard crates/*)),$(behind)))
-asked = $(if $(filter lib,$(MAKECMDGOALS)),barkmottle) $(filter gatelog,$(MAKECMDGOALS))
 
 # Proves and builds the command, and lists a sample log before and after one bit of it is flipped.
 first: gatelog
@@ -37,27 +25,32 @@ first: gatelog
 	@echo
 	@echo "The flipped bit made the block at place 6 unreadable and moved the event at place 7 by 4,096 seconds."
 
-# Proves the command, and builds it: a program in Rattle has no exit status of its own, so its main is in C.
+# Proves the command, and builds it. Rattle builds a program where it runs it, so it is asked for its usage.
 gatelog: $(GATELOG)
 
-$(GATELOG): $(SOURCES) command/main.c
-	@echo "proving what the command stands on, several crates at a time, and then the command itself"
-	rt check $(call below,gatelog $(asked))
-	rt staticlib gatelog
-	$(CC) -Wall -Wextra -Werror -O2 command/main.c target/staticlib/libgatelog.a $(KIT)/lib/libos_c.a -o $@
+$(GATELOG): $(SOURCES)
+	@echo "proving what the command stands on, and then the command itself"
+	cd crates/gatelog_command && rt run -- --help </dev/null >/dev/null
+	mkdir -p $(@D)
+	cp crates/gatelog_command/out/gatelog_command $@
 
-# Proves and makes each call that the data says: published vectors, the Rust crate's answers, and document 01.
+# Proves and makes each call that the data says: published vectors, the Rust crate's answers, and document 01. rt builds a
+# program where it runs it, which is not among the files of data: that first run is not looked at.
+DATA = crates/check_data
 data:
-	rt check check_data
-	cd crates/check_data/data && ../../../target/bin/check_data
+	rm -f $(DATA)/out/check_data
+	cd $(DATA) && { rt run </dev/null >/dev/null || test -x out/check_data; }
+	cd $(DATA)/data && ../out/check_data
 
 # Proves what the C host calls, and writes it as an archive.
 lib: $(ARCHIVE)
 	@echo "the archive is $(ARCHIVE), its header include/barkmottle.h"
 
-$(ARCHIVE): $(SOURCES)
-	rt check $(call below,barkmottle $(asked))
-	rt staticlib barkmottle
+# An archive is of a thin crate of exports over the library, which stays one for other crates.
+target/staticlib/lib%.a: $(SOURCES)
+	cd crates/$*_c && rt lib
+	mkdir -p $(@D)
+	cp crates/$*_c/out/lib$*_c.a $@
 
 # The library against the Rust crate, at full size: make differential [KEYS=N] [SEED=S] [SERPENT_SOURCE=FOLDER].
 differential: export KEYS := $(or $(KEYS),500000)
@@ -90,28 +83,22 @@ bench: export RUNS := $(or $(RUNS),2)
 bench: lib $(TIMED)
 	bench/run.sh $(ARCHIVE) $(TIMED)
 
-# What the bench calls under round keys.
-$(TIMED): $(SOURCES)
-	rt staticlib timed
-
-# Everything is proved from nothing, every wrong edit is tried, every program is run. The tests from C come first: those
-# of the library run beside the proof of the command, those of the command follow. No two calls of rt work at a time.
-# rt's closing line, 'N passed, 0 failed', is the last line of the gate: nothing may follow it.
+# The gate. rt ci proves everything, tries every wrong edit and runs every program; what it did earlier on the same files, on
+# the same machine, it keeps. The tests from C come first: those of the library run beside the proof of the command, those
+# of the command follow. No two calls of rt work at a time. rt's closing line, 'N passed, 0 failed', is the last line.
 LIBRARY_TESTS = run exports differential hostile
 test:
-	rt fmt --check
-	rt check $(call below,barkmottle gatelog)
 	$(MAKE) lib
 	printf '%s\n' "make gatelog" $(LIBRARY_TESTS:%="tests/%.sh $(ARCHIVE)") | tests/beside.sh sh -c
 	printf '%s\n' "tests/install.sh $(ARCHIVE)" "tests/command.sh $(GATELOG)" | tests/beside.sh sh -c
-	rt ci
+	tests/rt_ci.sh
 
-# The same without the wrong edits, and with what is proved already kept: for work on the code.
+# The proofs alone, with what is proved already kept: for work on the code.
 check:
-	rt check
+	rt all check
 
 fmt:
-	rt fmt
+	for crate in crates/*/; do (cd "$$crate" && rt fmt) || exit 1; done
 
 # What is installed, and what uninstall removes: these five files.
 to = $(DESTDIR)$(PREFIX)
@@ -131,4 +118,4 @@ uninstall:
 		"$(to)/bin/gatelog" "$(to)/share/man/man1/gatelog.1"
 
 clean:
-	rm -rf target
+	rm -rf target crates/*/out

@@ -29,7 +29,7 @@ function c_parameter(text,    at, name, type) {
 { sub(/\/\/.*/, ""); all = all " " $0 }
 END {
     gsub(/[ \t]+/, " ", all)
-    while (match(all, /#\[no_mangle\] pub extern "C" fn [a-z0-9_]+ ?\([^()]*\) -> [a-z0-9]+/)) {
+    while (match(all, /#\[unsafe\(no_mangle\)\] pub extern "C" fn [a-z0-9_]+ ?\([^()]*\) -> [a-z0-9]+/)) {
         item = substr(all, RSTART, RLENGTH)
         all = substr(all, RSTART + RLENGTH)
         sub(/^.* fn /, "", item)
@@ -104,7 +104,7 @@ agree() {
 }
 
 header=include/barkmottle.h
-exports=crates/barkmottle/src
+exports=crates/barkmottle_c/src
 answers=crates/answers/src/lib.rt
 if ! agree "$header" "$exports" "$answers" >&2; then
     echo "header: $header does not agree with the source (< the source, > the header)"
@@ -160,9 +160,9 @@ sed 's/^pub const VERSION: u32 = 7;/pub const VERSION: u32 = 8;/' "$answers" >"$
 must_fail "a number changed in the source"
 sed 's/BARKMOTTLE_DISCONNECT = 3/BARKMOTTLE_DISCONNECT = 4/' "$header" >"$work/h"
 must_fail "a class changed"
-printf '#[no_mangle]\npub extern "C" fn barkmottle_added(key: &[u8]) -> u32 {\n    0\n}\n' >>"$work/s/all.rt"
+printf '#[unsafe(no_mangle)]\npub extern "C" fn barkmottle_added(key: &[u8]) -> u32 {\n    0\n}\n' >>"$work/s/all.rt"
 must_fail "an export added"
-awk '/#\[no_mangle\]/ && !done { done = 1; next } { print }' "$exports"/*.rt >"$work/s/all.rt"
+awk '/#\[unsafe\(no_mangle\)\]/ && !done { done = 1; next } { print }' "$exports"/*.rt >"$work/s/all.rt"
 must_fail "an export no longer marked"
 
 echo "header: $result; each of $tried altered copies is found at fault"

@@ -29,6 +29,7 @@ mkdir -p "$out"
 
 # The header against the source, and as C99, C11 and C++.
 tests/header.sh || fail "the header and the source differ"
+tests/thin.sh || fail "an export is not the library's function"
 cat >"$out/twice.c" <<'C'
 #include "barkmottle.h"
 #include "barkmottle.h"
