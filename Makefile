@@ -34,8 +34,8 @@ $(GATELOG): $(SOURCES)
 	mkdir -p $(@D)
 	cp crates/gatelog_command/out/gatelog_command $@
 
-# Proves and makes each call that the data says: published vectors, the Rust crate's answers, and document 01. rt builds a
-# program where it runs it, which is not among the files of data: that first run is not looked at.
+# Proves and makes each call that the data says: published vectors, the Rust crate's answers, and document 01. rt builds
+# a program where it runs it, which is not among the files of data: that first run is not looked at.
 DATA = crates/check_data
 data:
 	rm -f $(DATA)/out/check_data
@@ -83,9 +83,10 @@ bench: export RUNS := $(or $(RUNS),2)
 bench: lib $(TIMED)
 	bench/run.sh $(ARCHIVE) $(TIMED)
 
-# The gate. rt ci proves everything, tries every wrong edit and runs every program; what it did earlier on the same files, on
-# the same machine, it keeps. The tests from C come first: those of the library run beside the proof of the command, those
-# of the command follow. No two calls of rt work at a time. rt's closing line, 'N passed, 0 failed', is the last line.
+# The gate. rt ci proves everything, tries every wrong edit and runs every program; what it did earlier on the same
+# files, on the same machine, it keeps. The tests from C come first: those of the library run beside the proof of the
+# command, those of the command follow. No two calls of rt work at a time. rt's closing line, 'N passed, 0 failed', is
+# the last line: nothing may follow it.
 LIBRARY_TESTS = run exports differential hostile
 test:
 	$(MAKE) lib

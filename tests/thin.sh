@@ -49,7 +49,8 @@ thin() {
         grep '^ghost use ' "$file" >"$work/used" || continue
         if grep -vxFf "$of" "$work/used"; then return 1; fi
     done
-    test "$(cat "$3"/*.rt | grep -c '^#\[unsafe(no_mangle)\]$')" -eq "$(cat "$3"/*.rt | grep -c '^pub extern "C" fn ')" || return 1
+    marks=$(cat "$3"/*.rt | grep -c '^#\[unsafe(no_mangle)\]$')
+    test "$marks" -eq "$(cat "$3"/*.rt | grep -c '^pub extern "C" fn ')" || return 1
     strays "$1" "$3" >"$work/strays"
     test ! -s "$work/strays"
 }
@@ -83,13 +84,13 @@ must_fail() {
 must_fail "a clause dropped" cipher.rt '/^    ensures number { result ≡ setup_number (length key.now) (length out.old) 32 }/d'
 must_fail "a clause weakened" cipher.rt 's/setup_number (length key.now) (length out.old) 32/result/'
 must_fail "a clause of another place" searches.rt 's/\.event\.wall\.0/.event.utc.0/'
-must_fail "a duty of the caller" log.rt 's/^    ensures { result ≡ frame_number frame.now }/    requires { length frame.now ≡ 0 } &/'
+must_fail "a duty of the caller" log.rt '/fn barkmottle_open_frame/s/$/ requires { length frame.now ≡ 0 }/'
 must_fail "another definition imported" log.rt 's/chain\.specs\.Slices/chain.specs.Other/'
 must_fail "another function called" events.rt 's/::barkmottle_event_wall(event)$/::barkmottle_event_utc(event)/'
 must_fail "two arguments exchanged" log.rt 's/(key, frame, place, count, out)/(key, frame, count, place, out)/'
-must_fail "a call of another library" cipher.rt 's/^    barkmottle::cipher::barkmottle_encrypt_block/    slices::barkmottle_encrypt_block/'
+must_fail "a call of another library" cipher.rt 's/barkmottle::cipher::barkmottle_encrypt/slices::barkmottle_encrypt/'
 must_fail "a body of its own" events.rt 's/^    barkmottle::events::barkmottle_event_kind(event)$/    0/'
 must_fail "an export no longer marked" cipher.rt '/^\/\/ The padded key/{n;d;}'
 must_fail "an export that is missing" searches.rt '/fn barkmottle_search_tries/,/^}/d'
 
-echo "thin: $exports exports only call the library's function, under its clauses; each of $tried altered copies is found at fault"
+echo "thin: $exports exports only call the library's function, under its clauses; each of $tried altered copies is found"
