@@ -1,9 +1,8 @@
 -- `hexkey::count_digits` meets its contract: the digits counted and those still to come are all. Assumes nothing.
-use mathlib.Core.Path.{◌≡◌, refl, ap}
-use Prim.Native.Nat.{◌+◌, ◌≤◌, ◌<◌}
+use mathlib.Core.Path.{refl, ap}
+use Prim.Native.Nat.{◌<◌}
 use native.Mathlib.Omega.{arith}
 use lib.ListN.{length}
-use Rattle.hexkey.specs.Key.{digits}
 use Rattle.hexkey.proofs.Texts.{digit_here, digit_past, no_digits}
 use Rattle.hexkey.proofs.count_digits.Goals as goal
 use Rattle.hexkey.proofs.count_digits.Goals.{then-value_of-lt16, else-value_of-lt16}

@@ -1,10 +1,7 @@
-use mathlib.Core.Path.{◌≡◌, refl, ap}
-use mathlib.Core.Logic.{⊎_elim}
-use Prim.Native.Nat.{◌+◌, ◌-◌, ◌≤◌, ◌<◌}
-use native.Mathlib.Omega.{arith}
+use mathlib.Core.Path.{◌≡◌}
+use Prim.Native.Nat.{◌+◌, ◌-◌, ◌≤◌}
 use lib.ListN.{length, drop}
 use Rattle.hexkey.specs.Key.{digits}
-use Rattle.hexkey.proofs.Texts.{digit_here, digit_past, no_digits}
 use Rattle.hexkey.proofs.count_digits.Given as goal
 
 abbrev pub invariant-loop-i : goal.invariant-loop-i

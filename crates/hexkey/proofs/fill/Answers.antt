@@ -1,6 +1,6 @@
 -- `hexkey::fill` meets its contract: after n digits n / 2 bytes of the key are pasted, and the last digit is at hand. Assumes nothing.
-use mathlib.Core.Path.{◌≡◌, refl, ◌∙◌}
-use Prim.Native.Nat.{◌+◌, ◌/◌, ◌≤◌, ◌<◌}
+use mathlib.Core.Path.{refl, ◌∙◌}
+use Prim.Native.Nat.{◌<◌}
 use native.Mathlib.Omega.{arith}
 use lib.ListN.{length}
 use Rattle.hexkey.proofs.Filling.{start, end, skipped, first, fits, whole, renamed}

@@ -1,9 +1,7 @@
-use mathlib.Core.Path.{◌≡◌, refl, ◌∙◌}
-use mathlib.Core.Logic.{⊎_elim}
-use Prim.Native.Nat.{◌+◌, ◌-◌, ◌/◌, ◌≤◌, ◌<◌}
-use native.Mathlib.Omega.{arith}
+use mathlib.Core.Path.{◌≡◌}
+use Prim.Native.Nat.{◌-◌, ◌≤◌}
 use lib.ListN.{length}
-use Rattle.hexkey.proofs.Filling.{Filled, start, end, skipped, first, fits, whole, renamed}
+use Rattle.hexkey.proofs.Filling.{Filled}
 use Rattle.hexkey.proofs.fill.Given as goal
 
 abbrev pub invariant-loop-i : goal.invariant-loop-i

@@ -1,9 +1,9 @@
 -- `hexkey::first_wrong` meets its contract: what is wrong in the whole text is wrong from the next byte on. Assumes nothing.
 use mathlib.Core.Path.{◌≡◌, refl, sym, ◌∙◌}
-use Prim.Native.Nat.{◌+◌, ◌-◌, ◌≤◌}
+use Prim.Native.Nat.{◌+◌}
 use native.Mathlib.Omega.{arith}
-use lib.ListN.{length, drop, get_or}
-use Rattle.hexkey.specs.Key.{value, wrong, wrong_from}
+use lib.ListN.{get_or}
+use Rattle.hexkey.specs.Key.{value, wrong}
 use Rattle.hexkey.proofs.Texts.{wrong_here, wrong_past, none_wrong}
 use Rattle.hexkey.proofs.first_wrong.Goals as goal
 

@@ -1,9 +1,7 @@
-use mathlib.Core.Path.{◌≡◌, refl, sym, ◌∙◌}
+use mathlib.Core.Path.{◌≡◌}
 use Prim.Native.Nat.{◌+◌, ◌-◌, ◌≤◌}
-use native.Mathlib.Omega.{arith}
-use lib.ListN.{length, drop, get_or}
-use Rattle.hexkey.specs.Key.{value, wrong, wrong_from}
-use Rattle.hexkey.proofs.Texts.{wrong_here, wrong_past, none_wrong}
+use lib.ListN.{length, drop}
+use Rattle.hexkey.specs.Key.{wrong, wrong_from}
 use Rattle.hexkey.proofs.first_wrong.Given as goal
 
 abbrev pub invariant-loop-i : goal.invariant-loop-i
