@@ -5,3 +5,4 @@ pub mod Command
 pub mod Demand2
 mod Same
 pub mod Demand3
+pub mod Demand3Holds

@@ -1,5 +1,6 @@
 -- `slices::block_number` meets its contract: its tests are the definition's, in order. Assumes nothing.
 use mathlib.Core.Path.{sym, ◌∙◌}
+use native.Mathlib.Omega.{arith}
 use Rattle.answers.proofs.Answers.{first_here}
 use Rattle.slices.specs.Blocks.{block_number}
 use Rattle.slices.proofs.OneBlock.{bad_block, short_buffer, ready_done}
@@ -13,15 +14,12 @@ returns-then-number-ne-DONE c =
 
 pub returns-then-block-ne16 : goal.returns-then-block-ne16
 returns-then-block-ne16 c =
-    let k = c in
-    sym (bad_block _ _ _ (sym k.key_number-number.ensures ∙ k.if-number-ne-DONE.false) c.if-block-ne16.true)
+    sym (bad_block _ _ _ (sym c.key_number-number.ensures ∙ c.if-number-ne-DONE.false) (λ z. omega arith))
 
 pub returns-then-out-lt16 : goal.returns-then-out-lt16
 returns-then-out-lt16 c =
-    let k = c in
-    sym (short_buffer _ _ _ (sym k.key_number-number.ensures ∙ k.if-number-ne-DONE.false) c.if-block-ne16.false c.if-out-lt16.true)
+    sym (short_buffer _ _ _ (sym c.key_number-number.ensures ∙ c.if-number-ne-DONE.false) (omega arith) (omega arith))
 
 pub returns : goal.returns
 returns c =
-    let k = c in
-    sym (ready_done _ _ _ (record { keys = sym k.key_number-number.ensures ∙ k.if-number-ne-DONE.false; size = c.if-block-ne16.false; room = c.if-out-lt16.false }))
+    sym (ready_done _ _ _ (record { keys = sym c.key_number-number.ensures ∙ c.if-number-ne-DONE.false; size = omega arith; room = omega arith }))
