@@ -9,7 +9,7 @@ use lib.Seq.{drop-drop, take-append-le, drop-append-le, length-take-le, length-p
 use Rattle.words.specs.Blocks.{block_at, put_at}
 use Rattle.words.proofs.Places.{block_there, put_there}
 use Rattle.words.proofs.Filled.{filled_more}
-use Rattle.chain.specs.Chain.{xor, last_or, blocks, decipher, join}
+use Rattle.chain.specs.Chain.{xor, last_or, blocks}
 use Rattle.chain.specs.Turns.{At, Onward}
 use Rattle.chain.proofs.Blocks.{block}
 use Rattle.chain.proofs.Links.{last_more, decipher_more}

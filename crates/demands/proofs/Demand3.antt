@@ -1,28 +1,16 @@
 -- Demand 3: damage stays where it is. That it holds is shown in Demand3Holds.antt, a file of its own, so that a wrong
 -- statement here is refused by its proof there.
-use mathlib.Core.Path.{◌≡◌, sym, ap, ◌∙◌}
-use mathlib.Core.List.{List, [], ◌∷◌, ◌++◌, append_assoc}
+use mathlib.Core.Path.{◌≡◌}
+use mathlib.Core.List.{List, [], ◌∷◌, ◌++◌}
 use Prim.Native.Nat.{ℕ, ◌+◌, ◌≤◌, ◌<◌}
-use native.Mathlib.Numerals.{add-one}
-use native.Mathlib.Omega.{arith}
-use lib.ListN.{length, take, drop, get_or, length-append}
-use lib.Seq.{drop-drop}
+use lib.ListN.{length, take, drop, get_or}
 use Rattle.words.specs.Sized.{Block}
-use Rattle.words.specs.Inverse.{Inverse}
-use Rattle.serpent.specs.Schedule.{schedule}
-use Rattle.serpent.specs.Block.{encrypt_bytes, decrypt_bytes}
-use Rattle.serpent.proofs.Inverse.{block_inverse}
-use Rattle.serpent.proofs.Keys.{schedule_sized}
-use Rattle.chain.specs.Chain.{xor, decipher, last_or, Blocks}
+use Rattle.chain.specs.Chain.{xor, last_or, Blocks}
 use Rattle.chain.specs.Slices.{block_limit}
-use Rattle.chain.proofs.Blocks.{blocks_append}
-use Rattle.chain.proofs.Damage as chain
-use Rattle.frame.specs.Frame.{block_count, frame_number, frame_of}
+use Rattle.frame.specs.Frame.{frame_number, frame_of}
 use Rattle.frame.specs.Window.{frame_texts, window_number, window_out}
-use Rattle.frame.proofs.Frames.{frame_opens, count_of, texts_of}
 use Rattle.search.specs.Search.{search_answer}
 use Rattle.demands.specs.Damage.{Replaced, moved}
-use Rattle.demands.proofs.Same as same
 
 -- ---- under any key, in a frame of a start block and of the blocks pre, old and rest, the run old is replaced by the run new
 module _ (key start : List ℕ) (pre old new rest : List (List ℕ)) where

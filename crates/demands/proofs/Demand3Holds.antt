@@ -2,7 +2,7 @@
 -- Assumes nothing.
 use mathlib.Core.Path.{◌≡◌, sym, ap, ◌∙◌}
 use mathlib.Core.List.{List, [], ◌∷◌, ◌++◌, append_assoc}
-use Prim.Native.Nat.{ℕ, ◌+◌, ◌≤◌, ◌<◌}
+use Prim.Native.Nat.{ℕ, ◌+◌, ◌≤◌}
 use native.Mathlib.Numerals.{add-one}
 use native.Mathlib.Omega.{arith}
 use lib.ListN.{length, take, drop, get_or, length-append}
@@ -13,17 +13,16 @@ use Rattle.serpent.specs.Schedule.{schedule}
 use Rattle.serpent.specs.Block.{encrypt_bytes, decrypt_bytes}
 use Rattle.serpent.proofs.Inverse.{block_inverse}
 use Rattle.serpent.proofs.Keys.{schedule_sized}
-use Rattle.chain.specs.Chain.{xor, decipher, last_or, Blocks}
+use Rattle.chain.specs.Chain.{decipher, Blocks}
 use Rattle.chain.specs.Slices.{block_limit}
 use Rattle.chain.proofs.Blocks.{blocks_append}
 use Rattle.chain.proofs.Damage as chain
 use Rattle.frame.specs.Frame.{block_count, frame_number, frame_of}
-use Rattle.frame.specs.Window.{frame_texts, window_number, window_out}
+use Rattle.frame.specs.Window.{frame_texts}
 use Rattle.frame.proofs.Frames.{frame_opens, count_of, texts_of}
-use Rattle.search.specs.Search.{search_answer}
-use Rattle.demands.specs.Damage.{Replaced, moved}
+use Rattle.demands.specs.Damage.{Replaced}
 use Rattle.demands.proofs.Same as same
-use Rattle.demands.proofs.Demand3.{Damaged, Differs, Restarted, DamageStays, was, is, was_after, is_after}
+use Rattle.demands.proofs.Demand3.{Damaged, Differs, Restarted, DamageStays, was, is}
 
 -- ---- the real cipher is the instance
 inverse : (key : List ℕ) → Inverse Block Block (encrypt_bytes (schedule key)) (decrypt_bytes (schedule key))

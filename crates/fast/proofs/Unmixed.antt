@@ -1,8 +1,8 @@
 -- A round undone, its round keys at hand.
 -- Assumes nothing.
-use mathlib.Core.Path.{◌≡◌, ap, ap₂, ◌∙◌}
+use mathlib.Core.Path.{◌≡◌, ap₂}
 use mathlib.Core.List.{List}
-use Prim.Native.Nat.{ℕ, ◌+◌, ◌*◌, ◌%◌}
+use Prim.Native.Nat.{ℕ, ◌*◌, ◌%◌}
 use Rattle.words.specs.Sized.{four}
 use Rattle.bitslice.specs.Boxes.{box, box_on, inverse, box_inv_words}
 use Rattle.bitslice.specs.Linear.{linear_transform_inv}

@@ -1,10 +1,10 @@
 -- `answers::put_answer` meets its contract: after i turns the answer's first i bytes are pasted, and where there is no room nothing is. Assumes nothing.
 use mathlib.Core.Path.{◌≡◌, refl, sym, ap, ◌∙◌}
 use mathlib.Core.List.{List}
-use Prim.Native.Nat.{ℕ, ◌-◌, ◌≤◌}
+use Prim.Native.Nat.{ℕ}
 use native.Mathlib.Omega.{arith}
 use lib.ListN.{length, get_or, set, length-set}
-use lib.Seq.{paste, paste-zero}
+use lib.Seq.{paste-zero}
 use Rattle.answers.proofs.Answers.{left_done, left_refused, short, roomy, next_pasted, pasted}
 use Rattle.answers.proofs.put_answer.Goals as goal
 

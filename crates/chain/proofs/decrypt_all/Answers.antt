@@ -1,10 +1,8 @@
 -- `chain::decrypt_all` meets its contract: each loop goes on from where the one before it ended. Assumes nothing.
-use Prim.Native.Nat.{ℕ, ◌+◌, ◌-◌, ◌*◌, ◌/◌, ◌≤◌, ◌<◌}
+use Prim.Native.Nat.{◌*◌, ◌/◌}
 use mathlib.Core.Path.{◌≡◌, refl, sym, ap, ◌∙◌}
-use mathlib.Core.List.{List}
 use native.Mathlib.Omega.{arith}
 use lib.ListN.{length}
-use Rattle.words.specs.Blocks.{block_at}
 use Rattle.words.proofs.Places.{block_there}
 use Rattle.words.proofs.Filled.{filled_none}
 use Rattle.serpent.specs.Block.{decrypt_bytes}
@@ -13,7 +11,7 @@ use Rattle.chain.specs.Slices.{deciphered}
 use Rattle.chain.proofs.Blocks.{block}
 use Rattle.chain.proofs.Xors.{length-xor}
 use Rattle.chain.proofs.Buffers.{filled_all}
-use Rattle.chain.specs.Turns.{At, Onward}
+use Rattle.chain.specs.Turns.{At}
 use Rattle.chain.proofs.Turns.{onward_none, onward_then, onward_to, onward_one}
 use borrow.Author.Rules.{rules}
 use Rattle.chain.proofs.decrypt_all.Goals as goal

@@ -1,20 +1,8 @@
-use Prim.Native.Nat.{ℕ, ◌+◌, ◌-◌, ◌*◌, ◌/◌, ◌≤◌, ◌<◌}
-use mathlib.Core.Path.{◌≡◌, refl, sym, ap, ◌∙◌}
-use mathlib.Core.List.{List}
-use native.Mathlib.Omega.{arith}
+use Prim.Native.Nat.{◌-◌, ◌*◌, ◌≤◌}
+use mathlib.Core.Path.{◌≡◌}
 use lib.ListN.{length}
-use Rattle.words.specs.Blocks.{block_at}
-use Rattle.words.proofs.Places.{block_there}
-use Rattle.words.proofs.Filled.{filled_none}
 use Rattle.serpent.specs.Block.{decrypt_bytes}
-use Rattle.chain.specs.Chain.{xor, last_or, blocks, decipher, join}
-use Rattle.chain.specs.Slices.{deciphered}
-use Rattle.chain.proofs.Blocks.{block}
-use Rattle.chain.proofs.Xors.{length-xor}
-use Rattle.chain.proofs.Buffers.{filled_all}
-use Rattle.chain.specs.Turns.{At, Onward}
-use Rattle.chain.proofs.Turns.{onward_none, onward_then, onward_to, onward_one}
-use borrow.Author.Rules.{rules}
+use Rattle.chain.specs.Turns.{Onward}
 use Rattle.chain.proofs.decrypt_all.Given as goal
 
 -- sixteen blocks a turn

@@ -1,5 +1,5 @@
 -- `chain::encrypt_all` meets its contract: after i turns `before` is the last cipher block made, the start block before the first, and the first i cipher blocks stand in front of the buffer.
-use Prim.Native.Nat.{ℕ, ◌-◌, ◌/◌, ◌≤◌}
+use Prim.Native.Nat.{ℕ, ◌/◌}
 use mathlib.Core.Path.{◌≡◌, refl, sym, ap₂, ◌∙◌}
 use mathlib.Core.List.{List}
 use native.Mathlib.Omega.{arith}
@@ -10,7 +10,6 @@ use Rattle.chain.specs.Chain.{xor, last_or, blocks, encipher, join}
 use Rattle.chain.specs.Slices.{enciphered}
 use Rattle.chain.proofs.Blocks.{block}
 use Rattle.chain.proofs.Links.{next, last_next, encipher_more}
-use Rattle.words.specs.Filled.{Filled}
 use Rattle.words.proofs.Filled.{filled_none, filled_more}
 use Rattle.chain.proofs.Buffers.{filled_all}
 use Rattle.chain.proofs.encrypt_all.Goals as goal

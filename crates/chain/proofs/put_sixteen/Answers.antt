@@ -1,5 +1,5 @@
 -- `chain::put_sixteen` meets its contract: after n turns n texts more stand. Assumes nothing.
-use Prim.Native.Nat.{ℕ, ◌+◌, ◌-◌, ◌*◌, ◌≤◌, ◌<◌}
+use Prim.Native.Nat.{ℕ, ◌+◌, ◌*◌}
 use mathlib.Core.Path.{◌≡◌, sym, ap, ◌∙◌}
 use mathlib.Core.List.{List}
 use native.Mathlib.Omega.{arith}
@@ -8,7 +8,6 @@ use Rattle.words.specs.Blocks.{block_at}
 use Rattle.serpent.specs.Block.{decrypt_bytes}
 use Rattle.fast.proofs.Sixteen.{each_there}
 use Rattle.chain.specs.Chain.{xor}
-use Rattle.chain.specs.Turns.{Onward}
 use Rattle.chain.proofs.Blocks.{block}
 use Rattle.chain.proofs.Xors.{length-xor}
 use Rattle.chain.proofs.Turns.{onward_none, onward_then, onward_to, onward_one, lent_block}

@@ -1,17 +1,8 @@
-use Prim.Native.Nat.{ℕ, ◌+◌, ◌-◌, ◌*◌, ◌≤◌, ◌<◌}
-use mathlib.Core.Path.{◌≡◌, sym, ap, ◌∙◌}
-use mathlib.Core.List.{List}
-use native.Mathlib.Omega.{arith}
+use Prim.Native.Nat.{◌+◌, ◌-◌, ◌*◌, ◌≤◌}
+use mathlib.Core.Path.{◌≡◌}
 use lib.ListN.{length}
-use Rattle.words.specs.Blocks.{block_at}
 use Rattle.serpent.specs.Block.{decrypt_bytes}
-use Rattle.fast.proofs.Sixteen.{each_there}
-use Rattle.chain.specs.Chain.{xor}
 use Rattle.chain.specs.Turns.{Onward}
-use Rattle.chain.proofs.Blocks.{block}
-use Rattle.chain.proofs.Xors.{length-xor}
-use Rattle.chain.proofs.Turns.{onward_none, onward_then, onward_to, onward_one, lent_block}
-use borrow.Author.Rules.{rules}
 use Rattle.chain.proofs.put_sixteen.Given as goal
 
 abbrev pub invariant-loop-n : goal.invariant-loop-n

@@ -1,9 +1,9 @@
 -- `chain::xor_block` meets its contract: after j turns the first j bytes are those of the XOR. Assumes nothing.
 use mathlib.Core.Path.{◌≡◌, refl, sym, ◌∙◌}
-use Prim.Native.Nat.{◌+◌, ◌-◌, ◌≤◌}
+use Prim.Native.Nat.{◌+◌}
 use native.Mathlib.Numerals.{add-one}
 use native.Mathlib.Omega.{arith}
-use lib.ListN.{length, take, length-set}
+use lib.ListN.{length, length-set}
 use lib.Seq.{take_all, take-suc}
 use Rattle.words.proofs.Lists.{filled}
 use Rattle.chain.specs.Chain.{xor}

@@ -1,12 +1,7 @@
-use mathlib.Core.Path.{◌≡◌, refl, sym, ◌∙◌}
-use Prim.Native.Nat.{◌+◌, ◌-◌, ◌≤◌}
-use native.Mathlib.Numerals.{add-one}
-use native.Mathlib.Omega.{arith}
-use lib.ListN.{length, take, length-set}
-use lib.Seq.{take_all, take-suc}
-use Rattle.words.proofs.Lists.{filled}
+use mathlib.Core.Path.{◌≡◌}
+use Prim.Native.Nat.{◌-◌, ◌≤◌}
+use lib.ListN.{length, take}
 use Rattle.chain.specs.Chain.{xor}
-use Rattle.chain.proofs.Xors.{get_or-xor, length-xor}
 use Rattle.chain.proofs.xor_block.Given as goal
 
 abbrev pub invariant-loop-j : goal.invariant-loop-j

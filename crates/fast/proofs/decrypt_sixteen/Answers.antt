@@ -1,6 +1,5 @@
 -- `fast::decrypt_sixteen` meets its contract: sixteen blocks loaded, each lane deciphered, and stored. Assumes nothing.
 use mathlib.Core.Path.{◌∙◌}
-use native.Mathlib.Omega.{arith}
 use Rattle.fast.proofs.Sixteen.{each_deciphered}
 use borrow.Author.Rules.{rules}
 use Rattle.fast.proofs.decrypt_sixteen.Goals as goal

@@ -1,11 +1,7 @@
-use mathlib.Core.Path.{◌≡◌, ◌∙◌}
+use mathlib.Core.Path.{◌≡◌}
 use mathlib.Core.List.{◌++◌}
-use Prim.Native.Nat.{◌+◌, ◌-◌, ◌≤◌, ◌<◌}
-use native.Mathlib.Omega.{arith}
+use Prim.Native.Nat.{◌-◌, ◌≤◌}
 use lib.ListN.{length, take, drop, replicate}
-use lib.Seq.{take-length}
-use Rattle.serpent.proofs.Padding.{copied_more, padded_short, padded_full}
-use borrow.Author.Rules.{rules}
 use Rattle.serpent.proofs.expand_key.Given as goal
 
 abbrev pub invariant-loop-i : goal.invariant-loop-i

@@ -1,8 +1,7 @@
 -- `serpent::make_prekeys` meets its contract: the first loop reads the eight key words, and after i turns of the second i prekeys stand behind them. Assumes nothing.
 use mathlib.Core.Path.{◌≡◌, refl}
-use Prim.Native.Nat.{◌+◌, ◌-◌, ◌≤◌}
 use native.Mathlib.Omega.{arith}
-use lib.ListN.{length, take, length-set}
+use lib.ListN.{length-set}
 use lib.Seq.{take_all}
 use Rattle.words.specs.Sized.{list_of}
 use Rattle.words.specs.Bytes.{words_of}

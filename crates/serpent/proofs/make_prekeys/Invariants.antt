@@ -1,14 +1,8 @@
-use mathlib.Core.Path.{◌≡◌, refl}
+use mathlib.Core.Path.{◌≡◌}
 use Prim.Native.Nat.{◌+◌, ◌-◌, ◌≤◌}
-use native.Mathlib.Omega.{arith}
-use lib.ListN.{length, take, length-set}
-use lib.Seq.{take_all}
-use Rattle.words.specs.Sized.{list_of}
+use lib.ListN.{length, take}
 use Rattle.words.specs.Bytes.{words_of}
-use Rattle.words.proofs.Lists.{built}
 use Rattle.serpent.specs.Schedule.{prekeys}
-use Rattle.serpent.proofs.Keys.{prekeys_more}
-use borrow.Author.Rules.{rules}
 use Rattle.serpent.proofs.make_prekeys.Given as goal
 
 abbrev pub invariant-loop-i : goal.invariant-loop-i

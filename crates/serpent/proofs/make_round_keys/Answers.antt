@@ -1,11 +1,8 @@
 -- `serpent::make_round_keys` meets its contract: after t turns the first 8t round keys stand, four words each. Assumes nothing.
-use mathlib.Core.Path.{◌≡◌, sym, refl, ◌∙◌}
-use Prim.Native.Nat.{◌-◌, ◌*◌, ◌≤◌}
+use mathlib.Core.Path.{sym, refl, ◌∙◌}
 use native.Mathlib.Omega.{arith}
-use lib.ListN.{length}
 use lib.Seq.{take_all}
 use Rattle.serpent.specs.Schedule.{round_keys}
-use Rattle.serpent.specs.Turns.{KeysUpTo}
 use Rattle.serpent.proofs.Keys.{up_to}
 use borrow.Author.Rules.{rules}
 use Rattle.serpent.proofs.make_round_keys.Goals as goal

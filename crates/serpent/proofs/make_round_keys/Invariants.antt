@@ -1,12 +1,5 @@
-use mathlib.Core.Path.{◌≡◌, sym, refl, ◌∙◌}
 use Prim.Native.Nat.{◌-◌, ◌*◌, ◌≤◌}
-use native.Mathlib.Omega.{arith}
-use lib.ListN.{length}
-use lib.Seq.{take_all}
-use Rattle.serpent.specs.Schedule.{round_keys}
 use Rattle.serpent.specs.Turns.{KeysUpTo}
-use Rattle.serpent.proofs.Keys.{up_to}
-use borrow.Author.Rules.{rules}
 use Rattle.serpent.proofs.make_round_keys.Given as goal
 
 abbrev pub invariant-loop-t : goal.invariant-loop-t

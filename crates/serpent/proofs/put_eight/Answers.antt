@@ -1,5 +1,4 @@
 -- `serpent::put_eight` meets its contract: eight round keys more, each by the box of its place. Assumes nothing.
-use mathlib.Core.Path.{◌≡◌}
 use native.Mathlib.Omega.{arith}
 use Rattle.serpent.proofs.Keys.{up_to}
 use Rattle.serpent.proofs.put_eight.Goals as goal

@@ -1,8 +1,8 @@
 -- `lanes::decrypt_each` meets its contract: rounds 31 to 24, and then eight a turn, are undone on each lane. Assumes nothing.
 use mathlib.Core.Path.{◌≡◌}
-use Prim.Native.Nat.{◌-◌, ◌+◌, ◌*◌, ◌≤◌}
+use Prim.Native.Nat.{◌-◌, ◌+◌}
 use native.Mathlib.Omega.{arith}
-use Rattle.fast.proofs.Undoing.{Undoing, undoing_none, undoing_turn, undone}
+use Rattle.fast.proofs.Undoing.{undoing_none, undoing_turn, undone}
 use Rattle.fast.proofs.lanes.decrypt_each.Goals as goal
 
 pub loop-i-init : goal.loop-i-init

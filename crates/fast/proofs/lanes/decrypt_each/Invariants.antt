@@ -1,7 +1,5 @@
-use mathlib.Core.Path.{◌≡◌}
-use Prim.Native.Nat.{◌-◌, ◌+◌, ◌*◌, ◌≤◌}
-use native.Mathlib.Omega.{arith}
-use Rattle.fast.proofs.Undoing.{Undoing, undoing_none, undoing_turn, undone}
+use Prim.Native.Nat.{◌-◌, ◌*◌, ◌≤◌}
+use Rattle.fast.proofs.Undoing.{Undoing}
 use Rattle.fast.proofs.lanes.decrypt_each.Given as goal
 
 abbrev pub invariant-loop-i : goal.invariant-loop-i

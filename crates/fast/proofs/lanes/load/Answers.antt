@@ -1,10 +1,9 @@
 -- `lanes::load` meets its contract: after j turns the lanes below j hold their blocks. Assumes nothing.
 use mathlib.Core.Path.{◌≡◌, refl, ap, ◌∙◌}
 use mathlib.Core.List.{List}
-use Prim.Native.Nat.{ℕ, ◌-◌, ◌≤◌}
+use Prim.Native.Nat.{ℕ}
 use native.Mathlib.Omega.{arith}
 use Rattle.words.specs.Bytes.{words_of}
-use Rattle.fast.specs.Lanes.{Loaded}
 use Rattle.fast.proofs.Sixteen.{load_lane}
 use Rattle.fast.proofs.lanes.load.Goals as goal
 

@@ -1,10 +1,5 @@
-use mathlib.Core.Path.{◌≡◌, refl, ap, ◌∙◌}
-use mathlib.Core.List.{List}
-use Prim.Native.Nat.{ℕ, ◌-◌, ◌≤◌}
-use native.Mathlib.Omega.{arith}
-use Rattle.words.specs.Bytes.{words_of}
+use Prim.Native.Nat.{◌-◌, ◌≤◌}
 use Rattle.fast.specs.Lanes.{Loaded}
-use Rattle.fast.proofs.Sixteen.{load_lane}
 use Rattle.fast.proofs.lanes.load.Given as goal
 
 abbrev pub invariant-loop-j : goal.invariant-loop-j

@@ -1,12 +1,11 @@
 -- `lanes::store` meets its contract: after j turns the bytes of the lanes below j stand in front. Assumes nothing.
 use mathlib.Core.Path.{◌≡◌, refl, sym, ap, ◌∙◌}
-use mathlib.Core.List.{List, ◌++◌}
-use Prim.Native.Nat.{ℕ, ◌+◌, ◌-◌, ◌≤◌}
+use mathlib.Core.List.{List}
+use Prim.Native.Nat.{ℕ}
 use native.Mathlib.Omega.{arith}
-use lib.ListN.{length, replicate}
+use lib.ListN.{length}
 use lib.Seq.{take_all}
 use Rattle.words.specs.Bytes.{bytes_of}
-use Rattle.words.specs.Filled.{Filled}
 use Rattle.words.proofs.Filled.{filled_none, filled_more}
 use Rattle.fast.specs.Lanes.{lane, lane_bytes}
 use Rattle.fast.proofs.Sixteen.{lane_bytes_more}

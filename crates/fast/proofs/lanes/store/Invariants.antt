@@ -1,14 +1,8 @@
-use mathlib.Core.Path.{◌≡◌, refl, sym, ap, ◌∙◌}
-use mathlib.Core.List.{List, ◌++◌}
-use Prim.Native.Nat.{ℕ, ◌+◌, ◌-◌, ◌≤◌}
-use native.Mathlib.Omega.{arith}
-use lib.ListN.{length, replicate}
-use lib.Seq.{take_all}
-use Rattle.words.specs.Bytes.{bytes_of}
+use mathlib.Core.Path.{◌≡◌}
+use Prim.Native.Nat.{◌-◌, ◌≤◌}
+use lib.ListN.{length}
 use Rattle.words.specs.Filled.{Filled}
-use Rattle.words.proofs.Filled.{filled_none, filled_more}
-use Rattle.fast.specs.Lanes.{lane, lane_bytes}
-use Rattle.fast.proofs.Sixteen.{lane_bytes_more}
+use Rattle.fast.specs.Lanes.{lane_bytes}
 use Rattle.fast.proofs.lanes.store.Given as goal
 
 abbrev pub invariant-loop-j : goal.invariant-loop-j

@@ -1,8 +1,7 @@
 -- `lanes::undo_3_2` meets its contract: lanes below j are done. Assumes nothing.
-use Prim.Native.Nat.{◌+◌, ◌-◌, ◌*◌}
+use Prim.Native.Nat.{◌+◌, ◌*◌}
 use native.Mathlib.Omega.{arith}
-use Rattle.fast.specs.Turns.{unrounds_from}
-use Rattle.fast.proofs.Sixteen.{Going, none_yet, all_done}
+use Rattle.fast.proofs.Sixteen.{none_yet, all_done}
 use Rattle.fast.proofs.Undoing.{next_pair}
 use borrow.Author.Rules.{rules}
 use Rattle.fast.proofs.lanes.undo_3_2.Goals as goal

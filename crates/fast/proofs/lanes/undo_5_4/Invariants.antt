@@ -1,9 +1,6 @@
 use Prim.Native.Nat.{◌+◌, ◌-◌, ◌*◌}
-use native.Mathlib.Omega.{arith}
 use Rattle.fast.specs.Turns.{unrounds_from}
-use Rattle.fast.proofs.Sixteen.{Going, none_yet, all_done}
-use Rattle.fast.proofs.Undoing.{next_pair}
-use borrow.Author.Rules.{rules}
+use Rattle.fast.proofs.Sixteen.{Going}
 use Rattle.fast.proofs.lanes.undo_5_4.Given as goal
 
 abbrev pub invariant-loop-j : goal.invariant-loop-j

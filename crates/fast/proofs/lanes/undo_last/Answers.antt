@@ -1,11 +1,8 @@
 -- `lanes::undo_last` meets its contract: lanes below j are done. Assumes nothing.
 use mathlib.Core.Path.{refl, ap, ◌∙◌}
-use mathlib.Core.List.{List}
-use Prim.Native.Nat.{ℕ, ◌-◌}
 use native.Mathlib.Omega.{arith}
 use Rattle.serpent.specs.Block.{unround}
-use Rattle.fast.specs.Turns.{unlast}
-use Rattle.fast.proofs.Sixteen.{Going, none_yet, next_lane, all_done}
+use Rattle.fast.proofs.Sixteen.{none_yet, next_lane, all_done}
 use Rattle.fast.proofs.Unmixed.{undoes, undoes_last}
 use borrow.Author.Rules.{rules}
 use Rattle.fast.proofs.lanes.undo_last.Goals as goal

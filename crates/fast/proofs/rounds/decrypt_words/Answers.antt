@@ -1,9 +1,8 @@
 -- `rounds::decrypt_words` meets its contract: after i turns what is left to do gives what deciphering gives of the first words. Assumes nothing.
 use mathlib.Core.Path.{◌≡◌, refl, ◌∙◌}
-use Prim.Native.Nat.{◌-◌, ◌≤◌}
 use native.Mathlib.Omega.{arith}
-use Rattle.serpent.specs.Block.{unrounds, decrypt_words}
-use Rattle.fast.proofs.Groups.{left, unturn}
+use Rattle.serpent.specs.Block.{unrounds}
+use Rattle.fast.proofs.Groups.{unturn}
 use borrow.Author.Rules.{rules}
 use Rattle.fast.proofs.rounds.decrypt_words.Goals as goal
 

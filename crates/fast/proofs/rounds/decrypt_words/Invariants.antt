@@ -1,9 +1,7 @@
-use mathlib.Core.Path.{◌≡◌, refl, ◌∙◌}
+use mathlib.Core.Path.{◌≡◌}
 use Prim.Native.Nat.{◌-◌, ◌≤◌}
-use native.Mathlib.Omega.{arith}
-use Rattle.serpent.specs.Block.{unrounds, decrypt_words}
-use Rattle.fast.proofs.Groups.{left, unturn}
-use borrow.Author.Rules.{rules}
+use Rattle.serpent.specs.Block.{decrypt_words}
+use Rattle.fast.proofs.Groups.{left}
 use Rattle.fast.proofs.rounds.decrypt_words.Given as goal
 
 abbrev pub invariant-loop-i : goal.invariant-loop-i

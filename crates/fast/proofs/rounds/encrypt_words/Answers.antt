@@ -1,9 +1,8 @@
 -- `rounds::encrypt_words` meets its contract: after t turns the words are what `made` says. Assumes nothing.
 use mathlib.Core.Path.{◌≡◌, refl}
-use Prim.Native.Nat.{◌-◌, ◌≤◌}
 use native.Mathlib.Omega.{arith}
 use Rattle.serpent.specs.Block.{rounds}
-use Rattle.fast.proofs.Groups.{made, turn}
+use Rattle.fast.proofs.Groups.{turn}
 use borrow.Author.Rules.{rules}
 use Rattle.fast.proofs.rounds.encrypt_words.Goals as goal
 

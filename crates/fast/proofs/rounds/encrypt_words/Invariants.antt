@@ -1,9 +1,6 @@
-use mathlib.Core.Path.{◌≡◌, refl}
+use mathlib.Core.Path.{◌≡◌}
 use Prim.Native.Nat.{◌-◌, ◌≤◌}
-use native.Mathlib.Omega.{arith}
-use Rattle.serpent.specs.Block.{rounds}
-use Rattle.fast.proofs.Groups.{made, turn}
-use borrow.Author.Rules.{rules}
+use Rattle.fast.proofs.Groups.{made}
 use Rattle.fast.proofs.rounds.encrypt_words.Given as goal
 
 abbrev pub invariant-loop-t : goal.invariant-loop-t

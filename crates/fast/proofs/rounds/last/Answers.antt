@@ -1,7 +1,5 @@
 -- `rounds::last` meets its contract. Assumes nothing.
 use mathlib.Core.Path.{ap, ap₂, ◌∙◌}
-use mathlib.Core.List.{List}
-use Prim.Native.Nat.{ℕ}
 use Rattle.bitslice.specs.Boxes.{box_words}
 use Rattle.state.specs.Words.{xor_words}
 use Rattle.serpent.specs.Block.{mix}

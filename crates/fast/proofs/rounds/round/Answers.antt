@@ -1,6 +1,5 @@
 -- `rounds::round` meets its contract: the box of round 8t + n is box n. Assumes nothing.
 use mathlib.Core.Path.{◌≡◌, ap, ◌∙◌}
-use mathlib.Core.List.{List}
 use Prim.Native.Nat.{ℕ, ◌+◌, ◌*◌, ◌%◌}
 use native.Mathlib.Omega.{arith}
 use Rattle.bitslice.specs.Boxes.{box, box_on}

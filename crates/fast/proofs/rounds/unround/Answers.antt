@@ -1,7 +1,6 @@
 -- `rounds::unround` meets its contract: the box of round 8t + n is box n. Assumes nothing.
-use mathlib.Core.Path.{◌≡◌, ap, ◌∙◌}
-use mathlib.Core.List.{List}
-use Prim.Native.Nat.{ℕ, ◌+◌, ◌*◌, ◌%◌}
+use mathlib.Core.Path.{◌∙◌}
+use Prim.Native.Nat.{◌+◌, ◌*◌}
 use native.Mathlib.Omega.{arith}
 use Rattle.fast.proofs.Unmixed.{undoes}
 use Rattle.fast.proofs.rounds.unround.Goals as goal

@@ -1,6 +1,6 @@
 -- `Serpent::decrypt_block` meets its contract: after n turns the rounds that are left to undo give what all 31 give of the words before the loop. Assumes nothing.
 use mathlib.Core.Path.{◌≡◌, ap, ◌∙◌}
-use Prim.Native.Nat.{suc, ◌+◌, ◌-◌, ◌≤◌}
+use Prim.Native.Nat.{suc, ◌+◌, ◌-◌}
 use native.Mathlib.Omega.{arith}
 use Rattle.bitslice.specs.Boxes.{box_inv_words}
 use Rattle.serpent.specs.Block.{mix, unround, unrounds, decrypt_words, decrypt_bytes}

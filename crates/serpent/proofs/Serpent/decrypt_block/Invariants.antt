@@ -1,8 +1,6 @@
-use mathlib.Core.Path.{◌≡◌, ap, ◌∙◌}
-use Prim.Native.Nat.{suc, ◌+◌, ◌-◌, ◌≤◌}
-use native.Mathlib.Omega.{arith}
-use Rattle.bitslice.specs.Boxes.{box_inv_words}
-use Rattle.serpent.specs.Block.{mix, unround, unrounds, decrypt_words, decrypt_bytes}
+use mathlib.Core.Path.{◌≡◌}
+use Prim.Native.Nat.{◌-◌, ◌≤◌}
+use Rattle.serpent.specs.Block.{unrounds}
 use Rattle.serpent.proofs.Serpent.decrypt_block.Given as goal
 
 abbrev pub invariant-loop-n : goal.invariant-loop-n

@@ -1,6 +1,5 @@
 -- `Serpent::encrypt_block` meets its contract: after i turns the words have gone through rounds 0 to i - 1, and the last round stands behind the loop. Assumes nothing.
 use mathlib.Core.Path.{◌≡◌, refl}
-use Prim.Native.Nat.{◌-◌, ◌≤◌}
 use native.Mathlib.Numerals.{add-one}
 use native.Mathlib.Omega.{arith}
 use Rattle.serpent.specs.Block.{round, rounds, encrypt_words, encrypt_bytes}

@@ -1,9 +1,6 @@
-use mathlib.Core.Path.{◌≡◌, refl}
+use mathlib.Core.Path.{◌≡◌}
 use Prim.Native.Nat.{◌-◌, ◌≤◌}
-use native.Mathlib.Numerals.{add-one}
-use native.Mathlib.Omega.{arith}
-use Rattle.serpent.specs.Block.{round, rounds, encrypt_words, encrypt_bytes}
-use borrow.Author.Rules.{rules}
+use Rattle.serpent.specs.Block.{rounds}
 use Rattle.serpent.proofs.Serpent.encrypt_block.Given as goal
 
 abbrev pub invariant-loop-i : goal.invariant-loop-i

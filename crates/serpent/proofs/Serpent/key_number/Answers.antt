@@ -2,7 +2,7 @@
 use mathlib.Core.Path.{sym}
 use mathlib.Core.Logic.{inl, inr}
 use native.Mathlib.Omega.{arith}
-use borrow.Author.Tests.{ltb-true, ltb-false}
+use borrow.Author.Tests.{ltb-false}
 use Rattle.serpent.proofs.KeyTest.{accepts, refuses}
 use Rattle.serpent.proofs.Serpent.key_number.Goals as goal
 use Rattle.serpent.proofs.Serpent.key_number.Goals.{then-length-lt-LEAST_KEY-via-then-length-lt-LEAST_KEY, then-length-lt-LEAST_KEY-via-else-length-lt-LEAST_KEY+then-length-gt-GREATEST_KEY}
@@ -10,8 +10,9 @@ use Rattle.serpent.proofs.Serpent.key_number.Goals.{then-length-lt-LEAST_KEY-via
 pub returns-then-length-lt-LEAST_KEY : goal.returns-then-length-lt-LEAST_KEY
 returns-then-length-lt-LEAST_KEY c =
     sym (refuses c.args.length (elim c.then-length-lt-LEAST_KEY.branch [
-      then-length-lt-LEAST_KEY-via-then-length-lt-LEAST_KEY w ↦ inl (omega arith)
-      | then-length-lt-LEAST_KEY-via-else-length-lt-LEAST_KEY+then-length-gt-GREATEST_KEY w ↦ inr (omega arith) ]))
+      | then-length-lt-LEAST_KEY-via-then-length-lt-LEAST_KEY w ↦ inl (omega arith)
+      | then-length-lt-LEAST_KEY-via-else-length-lt-LEAST_KEY+then-length-gt-GREATEST_KEY w ↦ inr (omega arith)
+    ]))
 
 pub returns : goal.returns
 returns c = sym (accepts c.args.length (record { least = omega arith; most = omega (arith, ltb-false) }))

@@ -1,8 +1,7 @@
 -- `slices::parts::round_key_bytes` meets its contract: after k turns the first k bytes stand. Assumes nothing.
 use mathlib.Core.Path.{◌≡◌}
-use Prim.Native.Nat.{◌-◌, ◌≤◌}
 use native.Mathlib.Omega.{arith}
-use lib.ListN.{length, take, length-set}
+use lib.ListN.{length-set}
 use lib.Seq.{take_all}
 use Rattle.words.specs.Sized.{list_of}
 use Rattle.words.specs.Bytes.{bytes_of, byte_at}

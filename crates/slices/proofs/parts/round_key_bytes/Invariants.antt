@@ -1,12 +1,7 @@
 use mathlib.Core.Path.{◌≡◌}
 use Prim.Native.Nat.{◌-◌, ◌≤◌}
-use native.Mathlib.Omega.{arith}
-use lib.ListN.{length, take, length-set}
-use lib.Seq.{take_all}
-use Rattle.words.specs.Sized.{list_of}
-use Rattle.words.specs.Bytes.{bytes_of, byte_at}
-use Rattle.words.proofs.Lists.{built}
-use borrow.Author.Rules.{rules}
+use lib.ListN.{length, take}
+use Rattle.words.specs.Bytes.{bytes_of}
 use Rattle.slices.proofs.parts.round_key_bytes.Given as goal
 
 abbrev pub invariant-loop-k : goal.invariant-loop-k

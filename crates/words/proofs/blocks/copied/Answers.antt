@@ -1,9 +1,9 @@
 -- `words::blocks::copied` meets its contract: after j turns the first j bytes are those from the place on. Assumes nothing.
 use mathlib.Core.Path.{◌≡◌, refl, sym, ◌∙◌}
-use Prim.Native.Nat.{◌+◌, ◌-◌, ◌≤◌}
+use Prim.Native.Nat.{◌+◌}
 use native.Mathlib.Numerals.{add-one}
 use native.Mathlib.Omega.{arith}
-use lib.ListN.{length, take, drop, length-set, length-drop}
+use lib.ListN.{drop, length-set, length-drop}
 use lib.Seq.{get_or-drop, take_all, take-suc}
 use Rattle.words.proofs.Lists.{filled}
 use Rattle.words.proofs.blocks.copied.Goals as goal

@@ -1,11 +1,11 @@
 -- `words::blocks::paste_block` meets its contract: after j turns the block's first j bytes are pasted. Assumes nothing.
 use mathlib.Core.Path.{◌≡◌, refl, ap, ◌∙◌}
 use mathlib.Core.List.{List}
-use Prim.Native.Nat.{ℕ, ◌+◌, ◌-◌, ◌≤◌}
+use Prim.Native.Nat.{ℕ, ◌+◌}
 use native.Mathlib.Numerals.{add-one}
 use native.Mathlib.Omega.{arith}
 use lib.ListN.{length, get_or, set, length-set}
-use lib.Seq.{paste, paste-zero, paste-suc}
+use lib.Seq.{paste-zero, paste-suc}
 use Rattle.words.proofs.blocks.paste_block.Goals as goal
 
 pub loop-j-init : goal.loop-j-init
