@@ -1,6 +1,6 @@
 // Bytes spelt in hexadecimal digits.
 ghost use Rattle.std.specs.Prelude.{◌≤◌, ◌<◌, length};
-ghost use Rattle.io.specs.Counts.{IsPrefixLen};
+ghost use Rattle.std.specs.Counts.{IsPrefixLen};
 
 // The value of a hexadecimal digit; 16 for any other byte.
 pub fn digit(b: u8) -> usize

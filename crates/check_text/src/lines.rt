@@ -1,6 +1,10 @@
 // Lines of a file, and the fields of a line.
 ghost use Rattle.std.specs.Prelude.{◌≡◌, ◌≤◌, ◌<◌, eqb, length, get_or};
-ghost use Rattle.io.specs.Counts.{IsPrefixLen};
+ghost use Rattle.std.specs.Counts.{IsPrefixLen};
+
+use std::io::Read;
+use std::rt::Files;
+use std::{fs, str};
 
 // The place of the first byte from `from` on that is `b`; the end where there is none.
 fn find(s: &[u8], from: usize, b: u8) -> usize
@@ -53,16 +57,32 @@ pub fn is_comment(line: &[u8]) -> bool
     line[0] == b'#'
 }
 
-// How much of a file is in the buffer; nothing where the file is missing, empty or too long.
-pub fn load(name: &[u8], buf: &mut [u8]) -> usize
+// Reads until the buffer is full, the input ends or a read fails, and answers how many bytes there are.
+fn read_full<R: Read>(from: &mut R, buf: &mut [u8]) -> usize
     ensures { IsPrefixLen result buf.new }
 {
-    let fd = os::open_read(name);
-    if fd < 0 {
-        return 0;
+    let mut n = 0;
+    while n < buf.len() {
+        match from.read(&mut buf[n..]) {
+            Ok(0) => break,
+            Ok(more) => n += more,
+            Err(_) => break,
+        }
     }
-    let n = io::read_full(fd, buf);
-    libc::close(fd);
+    n
+}
+
+// How much of a file is in the buffer; nothing where the file is missing, empty or too long.
+pub fn load<R: Files>(rt: &R, name: &[u8], buf: &mut [u8]) -> usize
+    ensures { IsPrefixLen result buf.new }
+{
+    let Ok(path) = str::from_utf8(name) else {
+        return 0;
+    };
+    let Ok(mut file) = fs::open(rt, path) else {
+        return 0;
+    };
+    let n = read_full(&mut file, buf);
     if n == buf.len() {
         return 0;
     }

@@ -26,5 +26,5 @@ pub fn is_answer(out: &[u8], wanted: &[u8]) -> bool
     if n > out.len() {
         return false;
     }
-    check::same(&out[0..n], wanted) && is_kept(out, n)
+    &out[0..n] == wanted && is_kept(out, n)
 }
