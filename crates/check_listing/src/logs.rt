@@ -2,6 +2,8 @@
 use check_text::events::event_block;
 use check_text::say;
 use listing::{put_closing, put_head, put_lines};
+use std::io;
+use std::io::Write;
 use words::blocks::put_block;
 
 // Noon on 29 February 2000.
@@ -36,51 +38,46 @@ fn written(place: usize) -> [u8; 16] {
 // The texts from a place on, as many as there is room for.
 fn put_events(texts: &mut [u8], from: usize) {
     for i in 0..texts.len() / 16 {
-        put_block(
-            written(std::num::wrapping_add_usize(from, i)),
-            texts,
-            i * 16,
-        );
+        put_block(written(from.wrapping_add(i)), texts, i * 16);
     }
 }
 
 // What a call has put in front of its buffer.
-fn show(out: &[u8], n: usize) {
+fn show<W: Write>(to: &mut W, out: &[u8], n: usize) -> io::Result<()> {
     if n <= out.len() {
-        say::text(&out[0..n]);
-        return;
+        return say::text(to, &out[0..n]);
     }
-    say::text(b"LONGER THAN ITS BUFFER\n");
+    say::text(to, b"LONGER THAN ITS BUFFER\n")
 }
 
-fn list_pages(texts: &[u8], page: usize) {
+fn list_pages<W: Write>(to: &mut W, texts: &[u8], page: usize) -> io::Result<()> {
     let mut out = [0u8; 2048];
     let n = put_lines(texts, 0, page, &mut out);
-    show(&out, n);
+    show(to, &out, n)?;
     let n = put_lines(texts, page, texts.len() / 16, &mut out);
-    show(&out, n);
+    show(to, &out, n)
 }
 
 // The whole listing, with a second page from a place on.
-fn list(name: &[u8], texts: &[u8], page: usize) {
+fn list<W: Write>(to: &mut W, name: &[u8], texts: &[u8], page: usize) -> io::Result<()> {
     let mut out = [0u8; 256];
-    say::text(name);
+    say::text(to, name)?;
     let n = put_head(&mut out);
-    show(&out, n);
-    list_pages(texts, page);
+    show(to, &out, n)?;
+    list_pages(to, texts, page)?;
     let n = put_closing(texts, &mut out);
-    show(&out, n);
+    show(to, &out, n)
 }
 
-pub fn all() {
+pub fn all<W: Write>(to: &mut W) -> io::Result<()> {
     let mut twelve = [0u8; 192];
     let mut three = [0u8; 48];
     let mut two = [0u8; 32];
     put_events(&mut twelve, 0);
     put_events(&mut three, 4);
     put_events(&mut two, 9);
-    list(b"twelve texts\n", &twelve, 5);
-    list(b"three texts, the first not readable\n", &three, 3);
-    list(b"two texts, both readable\n", &two, 0);
-    list(b"no text\n", b"", 0);
+    list(to, b"twelve texts\n", &twelve, 5)?;
+    list(to, b"three texts, the first not readable\n", &three, 3)?;
+    list(to, b"two texts, both readable\n", &two, 0)?;
+    list(to, b"no text\n", b"", 0)
 }

@@ -4,7 +4,9 @@
 mod logs;
 mod rooms;
 
-fn main() {
-    logs::all();
-    rooms::all();
+use std::io;
+
+fn main(rt: HostRuntime) -> io::Result<()> {
+    logs::all(&mut rt.stdout())?;
+    rooms::all(&mut rt.stdout())
 }
