@@ -60,7 +60,7 @@ fn both_ways(key: &[u8], block: [u8; 16], out: &mut [u8], at: usize) -> u32 {
     }
     let again = slices::decrypt_block(key, &cipher, &mut back);
     put_block(cipher, out, at);
-    if check::same(&back, &block) {
+    if back == block {
         return again;
     }
     NOT_BACK

@@ -1,12 +1,11 @@
 // The fields of a line: OPERATION NUMBER KEY BYTES START PLACE COUNT ROOM ANSWER, one space apart. `-` stands for a
 // field that the operation does not have, and for no bytes.
 ghost use Rattle.std.specs.Prelude.{◌≤◌, length};
-ghost use Rattle.io.specs.Counts.{IsPrefixLen};
+ghost use Rattle.std.specs.Counts.{IsPrefixLen};
 
 use crate::values::put_words;
 use check_text::hex;
 use check_text::lines::{after, part};
-use std::num::wrapping_sub_u64;
 
 // The most bytes of a field.
 pub const MOST: usize = 4224;
@@ -82,7 +81,7 @@ fn signed(piece: &[u8], out: &mut [u8]) -> usize
     }
     let mut value = far.value;
     if piece[0] == b'-' {
-        value = wrapping_sub_u64(0, value);
+        value = 0u64.wrapping_sub(value);
     }
     put_words(&[value], out, 0);
     8
@@ -141,7 +140,7 @@ pub fn field(fields: &[u8], i: usize) -> &[u8] {
 // Whether a field is of a kind.
 fn is_of(kind: u8, field: &[u8]) -> bool {
     let mut space = [0u8; MOST];
-    let none = check::same(field, b"-");
+    let none = field == b"-".as_slice();
     match kind {
         b'-' => none,
         b'n' => number_of(field).is,
@@ -170,7 +169,7 @@ pub fn row_of(rows: &[u8], name: &[u8], fields: &[u8]) -> usize {
     let mut at = 0;
     let mut row = 0;
     while at < rows.len() {
-        if check::same(part(rows, at, b' '), name)
+        if part(rows, at, b' ') == name
             && are_of(part(rows, after(rows, at, b' '), b'\n'), fields)
         {
             return row;

@@ -8,6 +8,8 @@ mod files;
 mod lines;
 mod values;
 
-fn main() {
-    files::check_list(b"files.txt");
+use std::io;
+
+fn main(rt: HostRuntime) -> io::Result<()> {
+    files::check_list(&rt, &mut rt.stdout(), b"files.txt")
 }
