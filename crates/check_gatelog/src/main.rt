@@ -1,64 +1,68 @@
 // The command on many files, with both its outputs on standard output: listings, sentences and statuses.
 #![tactic(auto)]
 
-fn write(text: &[u8]) {
-    io::write_all(libc::STDOUT_FILENO, text);
+use std::io;
+use std::io::Write;
+
+fn end<W: Write>(out: &mut W, status: u32) -> io::Result<()> {
+    writeln!(out, "status {status}")
 }
 
-fn end(status: u32) {
-    write(b"status ");
-    io::print_decimal(libc::STDOUT_FILENO, status as u64);
-    write(b"\n");
+// The command's own two writers are two handles of the same stream.
+fn list(rt: &HostRuntime, key: &[u8], frame: &[u8]) -> io::Result<()> {
+    let mut out = rt.stdout();
+    out.write_all(b"$ gatelog ")?;
+    out.write_all(key)?;
+    out.write_all(b" ")?;
+    out.write_all(frame)?;
+    out.write_all(b"\n")?;
+    let status = gatelog::run(rt, &mut out, &mut rt.stdout(), key, frame);
+    end(&mut out, status)
 }
 
-fn list(key: &[u8], frame: &[u8]) {
-    write(b"$ gatelog ");
-    write(key);
-    write(b" ");
-    write(frame);
-    write(b"\n");
-    let out = libc::STDOUT_FILENO;
-    end(gatelog::run(out, out, key, frame));
+fn listed(rt: &HostRuntime) -> io::Result<()> {
+    list(rt, b"key.txt", b"spots.frame")?;
+    list(rt, b"spaced.txt", b"none.frame")?;
+    list(rt, b"key.txt", b"-")?;
+    list(rt, b"spaced.txt", b"full.frame")?;
+    Ok(())
 }
 
-fn listed() {
-    list(b"key.txt", b"spots.frame");
-    list(b"spaced.txt", b"none.frame");
-    list(b"key.txt", b"-");
-    list(b"spaced.txt", b"full.frame");
+fn refused_keys(rt: &HostRuntime) -> io::Result<()> {
+    list(rt, b"nosuch.txt", b"spots.frame")?;
+    list(rt, b".", b"spots.frame")?;
+    list(rt, b"", b"spots.frame")?;
+    list(rt, b"bad.txt", b"spots.frame")?;
+    list(rt, b"odd.txt", b"spots.frame")?;
+    list(rt, b"empty.txt", b"spots.frame")?;
+    list(rt, b"fifteen.txt", b"spots.frame")?;
+    list(rt, b"thirty_three.txt", b"spots.frame")?;
+    list(rt, b"blanks.txt", b"spots.frame")?;
+    list(rt, b"-", b"spots.frame")?;
+    Ok(())
 }
 
-fn refused_keys() {
-    list(b"nosuch.txt", b"spots.frame");
-    list(b".", b"spots.frame");
-    list(b"", b"spots.frame");
-    list(b"bad.txt", b"spots.frame");
-    list(b"odd.txt", b"spots.frame");
-    list(b"empty.txt", b"spots.frame");
-    list(b"fifteen.txt", b"spots.frame");
-    list(b"thirty_three.txt", b"spots.frame");
-    list(b"blanks.txt", b"spots.frame");
-    list(b"-", b"spots.frame");
+fn refused_frames(rt: &HostRuntime) -> io::Result<()> {
+    list(rt, b"key.txt", b"nosuch.frame")?;
+    list(rt, b"key.txt", b"key.txt/spots.frame")?;
+    list(rt, b"key.txt", b".")?;
+    list(rt, b"key.txt", b"")?;
+    list(rt, b"key.txt", b"empty.frame")?;
+    list(rt, b"key.txt", b"short.frame")?;
+    list(rt, b"key.txt", b"cut.frame")?;
+    list(rt, b"key.txt", b"version.frame")?;
+    list(rt, b"key.txt", b"ragged.frame")?;
+    list(rt, b"key.txt", b"many.frame")?;
+    Ok(())
 }
 
-fn refused_frames() {
-    list(b"key.txt", b"nosuch.frame");
-    list(b"key.txt", b"key.txt/spots.frame");
-    list(b"key.txt", b".");
-    list(b"key.txt", b"");
-    list(b"key.txt", b"empty.frame");
-    list(b"key.txt", b"short.frame");
-    list(b"key.txt", b"cut.frame");
-    list(b"key.txt", b"version.frame");
-    list(b"key.txt", b"ragged.frame");
-    list(b"key.txt", b"many.frame");
-}
-
-fn main() {
-    let out = libc::STDOUT_FILENO;
-    listed();
-    refused_keys();
-    refused_frames();
-    end(gatelog::misused(out));
-    end(gatelog::help(out, out));
+fn main(rt: HostRuntime) -> io::Result<()> {
+    listed(&rt)?;
+    refused_keys(&rt)?;
+    refused_frames(&rt)?;
+    let mut out = rt.stdout();
+    let status = gatelog::misused(&mut out);
+    end(&mut out, status)?;
+    let status = gatelog::help(&mut out, &mut rt.stdout());
+    end(&mut out, status)
 }

@@ -1,8 +1,12 @@
 // Files read whole, and words of the command line.
-ghost use Rattle.std.specs.Prelude.{◌+◌, ◌≤◌, length};
-ghost use Rattle.io.specs.Counts.{IsPrefixLen};
+ghost use Rattle.std.specs.Prelude.{◌+◌, ◌≤◌, IfOk, length};
+ghost use Rattle.std.specs.Counts.{IsPrefixLen};
+ghost use Rattle.std.specs.Io.{ReadsAtMost};
 
 use crate::say;
+use std::io::{ErrorKind, Input, Read, Write};
+use std::rt::Files;
+use std::{fs, io, str};
 
 // How many bytes were read. Where reading failed there are none.
 #[derive(Drop)]
@@ -20,36 +24,50 @@ pub fn nothing() -> Loaded
     }
 }
 
-// One read, behind what is there. No byte comes at the end, and where it fails.
-fn more(fd: i32, buf: &mut [u8], at: usize) -> Loaded
-    requires { at ≤ length buf.old }
-    ensures { at + result.size ≤ length buf.old }
-{
-    let got = libc::read(fd, &mut buf[at..]);
-    Loaded {
-        size: io::count(got, &buf[at..]),
-        failed: got < 0,
+// A name that is not UTF-8 text cannot be opened: std takes no other.
+fn open<R: Files>(rt: &R, path: &[u8]) -> io::Result<R::File> {
+    match str::from_utf8(path) {
+        Ok(name) => fs::open(rt, name),
+        Err(_) => Err(io::Error::from(ErrorKind::Unsupported)),
     }
 }
 
-// Reads to the end, or until the buffer is full.
-fn load(fd: i32, buf: &mut [u8]) -> Loaded
-    ensures { IsPrefixLen result.size buf.new }
+// One read, behind what is there. No byte comes at the end.
+fn more<F: Read>(file: &mut F, buf: &mut [u8], at: usize) -> io::Result<usize>
+    requires { at ≤ length buf.old }
+    ensures { IfOk result (λ n. at + n ≤ length buf.old) }
+{
+    file.read(&mut buf[at..])
+}
+
+// Reads to the end, or until the buffer is full. After an error the buffer may hold what was read before it.
+fn load<F: Read>(file: &mut F, buf: &mut [u8]) -> io::Result<usize>
+    ensures { ReadsAtMost result buf.new }
 {
     let mut size = 0;
     while size < buf.len() {
-        let next = more(fd, buf, size);
-        if next.failed {
-            return nothing();
-        }
-        if next.size == 0 {
+        let next = more(file, buf, size)?;
+        if next == 0 {
             break;
         }
-        size += next.size;
+        size += next;
     }
-    Loaded {
-        size,
-        failed: false,
+    Ok(size)
+}
+
+// The same, or a sentence that says why the file of that name is not read.
+fn load_named<F: Read, E: Write>(file: &mut F, err: &mut E, name: &[u8], buf: &mut [u8]) -> Loaded
+    ensures { IsPrefixLen result.size buf.new }
+{
+    match load(file, buf) {
+        Ok(size) => Loaded {
+            size,
+            failed: false,
+        },
+        Err(why) => {
+            say::unread(err, name, &why);
+            nothing()
+        }
     }
 }
 
@@ -75,32 +93,29 @@ pub fn is_help(word: &[u8]) -> bool {
 }
 
 // The file of a path, read whole into the first bytes of `buf`, or a sentence that says why it is not.
-pub fn load_file(err: i32, path: &[u8], buf: &mut [u8]) -> Loaded
+pub fn load_file<R: Files, E: Write>(rt: &R, err: &mut E, path: &[u8], buf: &mut [u8]) -> Loaded
     ensures { IsPrefixLen result.size buf.new }
 {
-    let fd = os::open_read(path);
-    if fd < 0 {
-        say::unread(err, path);
-        return nothing();
+    match open(rt, path) {
+        Ok(mut file) => load_named(&mut file, err, path, buf),
+        Err(why) => {
+            say::unread(err, path, &why);
+            nothing()
+        }
     }
-    let read = load(fd, buf);
-    if read.failed {
-        say::unread(err, path);
-    }
-    libc::close(fd);
-    read
 }
 
 // The same, where "-" is standard input.
-pub fn load_frame(err: i32, path: &[u8], buf: &mut [u8]) -> Loaded
+pub fn load_frame<R: Files + Input, E: Write>(
+    rt: &R,
+    err: &mut E,
+    path: &[u8],
+    buf: &mut [u8],
+) -> Loaded
     ensures { IsPrefixLen result.size buf.new }
 {
     if !is_dash(path) {
-        return load_file(err, path, buf);
+        return load_file(rt, err, path, buf);
     }
-    let read = load(libc::STDIN_FILENO, buf);
-    if read.failed {
-        say::unread(err, b"standard input");
-    }
-    read
+    load_named(&mut rt.reader(), err, b"standard input", buf)
 }
