@@ -1,0 +1,9 @@
+-- Each turn goes on behind what was read, and no turn past the buffer.
+use Rattle.std.proofs.Common.{◌-◌, ◌≤◌, length}
+use Rattle.gatelog.proofs.files.load.Given as goal
+
+abbrev pub invariant-loop-size : goal.invariant-loop-size
+invariant-loop-size g l = l.size ≤ length l.buf
+
+abbrev pub decreases-loop-size : goal.decreases-loop-size
+decreases-loop-size g l = length l.initial.buf - l.size
