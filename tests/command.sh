@@ -86,6 +86,13 @@ refuses "number 6" "$key" "$key"
 refuses "number 6" "$key" - </dev/null
 dd if=/dev/zero of="$out/huge.frame" bs=65536 count=1 2>/dev/null
 refuses "65536 bytes or more" "$key" "$out/huge.frame"
+# A name that is not UTF-8 text, and the same log on standard input.
+strange=$(printf '%s/\377.frame' "$out")
+cp "$frame" "$strange"
+LC_ALL=C
+export LC_ALL
+refuses "its name is not UTF-8 text" "$key" "$strange"
+lists tests/gatelog.healthy.expected "$key" - <"$strange"
 refuses "too long for a file's name" "$(printf '%05000d' 0)" "$frame"
 if [ "$(id -u)" -ne 0 ]; then
     cp "$key" "$out/hidden.txt"

@@ -28,7 +28,7 @@ pub fn nothing() -> Loaded
 fn open<R: Files>(rt: &R, path: &[u8]) -> io::Result<R::File> {
     match str::from_utf8(path) {
         Ok(name) => fs::open(rt, name),
-        Err(_) => Err(io::Error::from(ErrorKind::Unsupported)),
+        Err(_) => Err(io::Error::from(ErrorKind::InvalidData)),
     }
 }
 

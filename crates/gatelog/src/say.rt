@@ -112,6 +112,7 @@ fn unread_text(why: &Error) -> &'static [u8] {
         ErrorKind::IsADirectory => b"it is a folder: name a file in it",
         ErrorKind::InvalidFilename => b"it is too long for a file's name",
         ErrorKind::InvalidInput => b"it is no file's name",
+        ErrorKind::InvalidData => b"its name is not UTF-8 text: give the file another name",
         _ => b"it cannot be read",
     }
 }
