@@ -1,7 +1,7 @@
 #!/usr/bin/env python3
 """Brings this repository's own names to today's spelling: words in snake case, a dash only where it joins two names.
 
-usage: tools/respell.py [--list]   at the top, once, right after /opt/rattle/port/port.py
+usage: tools/respell.py [--list]   at the top, once, right after the kit's port.py
 
 It reads which names specs/ and proofs/*.antt declare, and respells them there, in the clauses of src/, and in the files
 Proof.antt that cite them. Names of src/, names that Rattle makes and names of the library stay as they are.
