@@ -1,6 +1,6 @@
 -- The orders of tests: each number where its test is the first to hold, and what number 0 tells of the lengths.
 -- Assumes nothing.
-use mathlib.Core.Path.{◌≡◌, ◌∙◌}
+use mathlib.Core.Path.{◌≡◌, sym, ◌∙◌}
 use Prim.Native.Nat.{ℕ, suc, ◌≤◌, ◌<◌, ◌%◌, ◌/◌}
 use native.Mathlib.Omega.{arith}
 use borrow.Author.Tests.{lt-ltb, le-ltb, ltb-false, eq-eqb, ne_eqb, eqb-true}
@@ -63,6 +63,10 @@ module _ (key text start out : ℕ) where
   pub ragged : key_number key ≡ 0 → (text % 16 ≡ 0 → ⊥) → chain_number key text start out ≡ 2
   unfolding chain_number first_number on_done ◌when◌
   ragged k h = simp (k, ne_eqb _ _ h)
+
+  -- as the code comes to it
+  pub uneven : {number : ℕ} → number ≡ key_number key → number ≡ 0 → (text % 16 ≡ 0 → ⊥) → 2 ≡ chain_number key text start out
+  uneven k z h = sym (ragged (sym k ∙ z) h)
 
   pub bad_start : key_number key ≡ 0 → text % 16 ≡ 0 → (start ≡ 16 → ⊥) → chain_number key text start out ≡ 3
   unfolding chain_number first_number on_done ◌when◌

@@ -154,6 +154,7 @@ pub fn decrypt_blocks(
 }
 
 // The tests in their order, on the lengths of key, text, start block and output buffer.
+#[tactic(auto, using(crate::proofs::Numbers::uneven))]
 fn chain_number(key: usize, text: usize, start: usize, out: usize) -> u32
     ensures { result ≡ chain_number key text start out }
 {

@@ -5,7 +5,7 @@ use native.Mathlib.Omega.{arith}
 use Rattle.answers.proofs.Answers.{first_here}
 use Rattle.serpent.specs.Keys.{key_number}
 use Rattle.chain.specs.Slices.{block_limit, chain_number}
-use Rattle.chain.proofs.Numbers.{ready_done, ragged, bad_start, too_many, short_buffer}
+use Rattle.chain.proofs.Numbers.{ready_done, bad_start, too_many, short_buffer}
 use Rattle.chain.proofs.chain_number.Goals as goal
 
 pub returns-then-number-ne-DONE : goal.returns-then-number-ne-DONE
@@ -13,13 +13,6 @@ unfolding chain_number
 returns-then-number-ne-DONE c =
     let n = c.key_number-number.ensures in
     n ∙ sym (first_here _ (λ z. c.if-number-ne-DONE.true (n ∙ z)))
-
-pub returns-then-text-ne0 : goal.returns-then-text-ne0
-returns-then-text-ne0 c =
-    let a = c.args in
-    let keys : key_number a.key ≡ 0 = sym c.key_number-number.ensures ∙ c.if-number-ne-DONE.false in
-    let uneven : a.text % 16 ≡ 0 → ⊥ = λ z. omega arith in
-    sym (ragged _ _ _ _ keys uneven)
 
 pub returns-then-start-ne16 : goal.returns-then-start-ne16
 returns-then-start-ne16 c =
