@@ -13,13 +13,12 @@ loop-i-init c = (omega arith, refl, refl, paste-zero c.args.out.now 0 c.args.ans
 
 pub loop-i-preserved : goal.loop-i-preserved
 loop-i-preserved c =
-    let at = c in
-    let a = at.args in
-    let i = at.loop-i.i in (
+    let a = c.args in
+    let i = c.loop-i.i in (
       omega arith,
-      at.loop-i.invariant.1,
-      simp length-set at.loop-i.invariant.2,
-      ap (λ (l : List ℕ). set l i (get_or a.answer.now i 0)) at.loop-i.invariant.3
+      c.loop-i.invariant.1,
+      simp length-set c.loop-i.invariant.2,
+      ap (λ (l : List ℕ). set l i (get_or a.answer.now i 0)) c.loop-i.invariant.3
           ∙ next_pasted a.answer.now a.out.now i (omega arith) (omega arith),
     )
 

@@ -7,9 +7,8 @@ use Rattle.bitslice.proofs.linear_transform_inv.Goals as goal
 pub returns : goal.returns
 unfolding linear back undo run
 returns c =
-    let b = c in
-    let second = turned (turned refl 2 10 b.rotate_right.ensures) 0 27 b.rotate_right-2.ensures in
-    let third = turned (mixed (mixed_shl second 2 3 1 7) 0 1 3) 3 25 b.rotate_right-3.ensures in
+    let second = turned (turned refl 2 10 c.rotate_right.ensures) 0 27 c.rotate_right-2.ensures in
+    let third = turned (mixed (mixed_shl second 2 3 1 7) 0 1 3) 3 25 c.rotate_right-3.ensures in
     let fourth = turned third 1 31 c.rotate_right-4.ensures in
     let fifth = turned (mixed (mixed_shl fourth 3 2 0 3) 1 0 2) 2 29 c.rotate_right-5.ensures in
     turned fifth 0 19 c.rotate_right-6.ensures

@@ -14,10 +14,6 @@ returns-then-number-ne-DONE c =
 
 pub returns : goal.returns
 returns c = let w = (
-    let ran = c in
-    let read = ran in
-    let keyed = read in
-    let tested = keyed in
-    let a = tested.args in
-    written deciphered a.key.now a.cipher.now a.start.now a.out.now tested.chain_number-number.ensures tested.if-number-ne-DONE.false
-    keyed.new_from_slice-keyed.ensures read.block_at.ensures ran.decrypt_blocks.ensures.number ran.decrypt_blocks.ensures.written) in record { number = w.0; written = w.1 }
+    let a = c.args in
+    written deciphered a.key.now a.cipher.now a.start.now a.out.now c.chain_number-number.ensures c.if-number-ne-DONE.false
+    c.new_from_slice-keyed.ensures c.block_at.ensures c.decrypt_blocks.ensures.number c.decrypt_blocks.ensures.written) in record { number = w.0; written = w.1 }

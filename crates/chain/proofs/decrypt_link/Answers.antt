@@ -7,5 +7,4 @@ use Rattle.chain.proofs.decrypt_link.Goals as goal
 
 pub returns : goal.returns
 returns c =
-    let deciphered = c in
-    c.xor_block.ensures ∙ ap (λ (t : List ℕ). xor t deciphered.args.before) deciphered.decrypt_block.ensures
+    c.xor_block.ensures ∙ ap (λ (t : List ℕ). xor t c.args.before) c.decrypt_block.ensures

@@ -20,23 +20,18 @@ loop-i-init c = (omega arith, refl, filled_none _)
 
 pub loop-i-preserved : goal.loop-i-preserved
 loop-i-preserved c =
-    let put = c in
-    let linked = put in
-    let read = linked in
-    let at-loop = read in
-    let begun = at-loop in
-    let a = begun.args in
-    let i = at-loop.loop-i.i in
+    let a = c.args in
+    let i = c.loop-i.i in
     let E = encrypt_bytes a.round_keys.now in
-    let cipher = linked.encrypt_link-cipher.result in
-    let size : length cipher ≡ 16 = linked.encrypt_link-cipher.type_inv.1.0.1 in
-    let here : read.block_at-block.result ≡ block i a.text.now = read.block_at-block.ensures ∙ sym (block_there a.text.now _ (omega arith)) in
+    let cipher = c.encrypt_link-cipher.result in
+    let size : length cipher ≡ 16 = c.encrypt_link-cipher.type_inv.1.0.1 in
+    let here : c.block_at-block.result ≡ block i a.text.now = c.block_at-block.ensures ∙ sym (block_there a.text.now _ (omega arith)) in
     let same : cipher ≡ next E a.start i a.text.now =
-    linked.encrypt_link-cipher.ensures ∙ ap₂ (λ (x y : List ℕ). E (xor x y)) here at-loop.loop-i.invariant.1 in (
+    c.encrypt_link-cipher.ensures ∙ ap₂ (λ (x y : List ℕ). E (xor x y)) here c.loop-i.invariant.1 in (
       omega arith,
       same ∙ sym (last_next E a.start i a.text.now),
-      rw (put.put_block.ensures, encipher_more E a.start i a.text.now, ← same)
-          (filled_more a.out.now at-loop.loop-i.out i _ cipher at-loop.loop-i.invariant.2 size (omega (arith, begun.requires))),
+      rw (c.put_block.ensures, encipher_more E a.start i a.text.now, ← same)
+          (filled_more a.out.now c.loop-i.out i _ cipher c.loop-i.invariant.2 size (omega (arith, c.requires))),
     )
 
 pub returns : goal.returns

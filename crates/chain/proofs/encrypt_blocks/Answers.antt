@@ -16,9 +16,7 @@ encrypt_all-requires c = room_blocks _ _ (sym c.blocks_number-number.ensures ∙
 
 pub returns : goal.returns
 returns c =
-    let ran = c in
-    let tested = ran in
-    let n = tested.blocks_number-number.ensures in record {
+    let n = c.blocks_number-number.ensures in record {
       number = n;
-      written = ran.encrypt_all.ensures ∙ sym (left_done _ _ (sym n ∙ tested.if-number-ne-DONE.false));
+      written = c.encrypt_all.ensures ∙ sym (left_done _ _ (sym n ∙ c.if-number-ne-DONE.false));
     }

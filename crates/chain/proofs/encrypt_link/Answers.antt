@@ -5,5 +5,4 @@ use Rattle.chain.proofs.encrypt_link.Goals as goal
 
 pub returns : goal.returns
 returns c =
-    let mixed = c in
-    c.encrypt_block.ensures ∙ ap (encrypt_bytes mixed.args.round_keys.now) mixed.xor_block.ensures
+    c.encrypt_block.ensures ∙ ap (encrypt_bytes c.args.round_keys.now) c.xor_block.ensures

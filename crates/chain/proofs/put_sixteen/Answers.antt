@@ -19,28 +19,22 @@ loop-n-init c = (omega arith, search rules, onward_to (omega arith) (onward_none
 
 pub loop-n-preserved : goal.loop-n-preserved
 loop-n-preserved c =
-    let put = c in
-    let found = put in
-    let at = found in
-    let made = at in
-    let start = made in
-    let a = start.args in
+    let a = c.args in
     let s = a.s in
-    let n = at.loop-n.n in
+    let n = c.loop-n.n in
     let D = decrypt_bytes a.round_keys.now in
-    let d = found.block_at.result in
-    let size : length d ≡ 16 = found.block_at.type_inv.1.0.1 in
+    let d = c.block_at.result in
+    let size : length d ≡ 16 = c.block_at.type_inv.1.0.1 in
     let here : d ≡ D (block (s * 16 + n) a.cipher.now) =
-    found.block_at.ensures ∙ ap (λ (l : List ℕ). block_at l (n * 16)) made.decrypt_sixteen-sixteen.ensures
+    c.block_at.ensures ∙ ap (λ (l : List ℕ). block_at l (n * 16)) c.decrypt_sixteen-sixteen.ensures
     ∙ each_there a.round_keys.now _ 16 n (omega arith) ∙ ap D (lent_block a.cipher.now s n (omega arith) (omega arith)) in
-    let text : length (xor d at.loop-n.before) ≡ 16 = length-xor d at.loop-n.before (size ∙ sym at.loop-n.invariant.1) ∙ size in
+    let text : length (xor d c.loop-n.before) ≡ 16 = length-xor d c.loop-n.before (size ∙ sym c.loop-n.invariant.1) ∙ size in
     let more =
-    onward_one D here put.put_text-next.ensures.next put.put_text-next.ensures.put text (omega arith)
-    (omega (arith, start.requires, at.loop-n.invariant.2.size)) in
-    (omega arith, put.put_text-next.type_inv.1.0.1, onward_to (omega arith) (onward_then at.loop-n.invariant.2 more))
+    onward_one D here c.put_text-next.ensures.next c.put_text-next.ensures.put text (omega arith)
+    (omega (arith, c.requires, c.loop-n.invariant.2.size)) in
+    (omega arith, c.put_text-next.type_inv.1.0.1, onward_to (omega arith) (onward_then c.loop-n.invariant.2 more))
 
 pub returns : goal.returns
 returns c =
-    let at = c in
-    let all : at.loop-n.n ≡ 16 = omega arith in
-    onward_to (omega arith) at.loop-n.invariant.2
+    let all : c.loop-n.n ≡ 16 = omega arith in
+    onward_to (omega arith) c.loop-n.invariant.2

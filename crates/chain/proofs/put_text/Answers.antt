@@ -5,8 +5,7 @@ use Rattle.chain.proofs.put_text.Goals as goal
 
 pub returns : goal.returns
 returns c =
-    let put = c in
-    let mixed = put in record {
-      next = mixed.block_at-block.ensures;
-      put = put.put_block.ensures ∙ ap (put_at _ _) mixed.xor_block-text.ensures;
+    record {
+      next = c.block_at-block.ensures;
+      put = c.put_block.ensures ∙ ap (put_at _ _) c.xor_block-text.ensures;
     }

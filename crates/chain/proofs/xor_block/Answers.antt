@@ -12,15 +12,14 @@ use Rattle.chain.proofs.xor_block.Goals as goal
 
 pub loop-j-preserved : goal.loop-j-preserved
 loop-j-preserved c =
-    let at-loop = c in
-    let a = at-loop.args in
-    let j = at-loop.loop-j.j in
-    let left : length a.a ≡ 16 = at-loop.well_formed.0.1.0.1 in
-    let right : length a.b ≡ 16 = at-loop.well_formed.1.0.1.0.1 in
+    let a = c.args in
+    let j = c.loop-j.j in
+    let left : length a.a ≡ 16 = c.well_formed.0.1.0.1 in
+    let right : length a.b ≡ 16 = c.well_formed.1.0.1.0.1 in
     let both : length (xor a.a a.b) ≡ 16 = length-xor a.a a.b (left ∙ sym right) ∙ left in (
       omega arith,
-      simp length-set at-loop.loop-j.invariant.1,
-      filled _ j (j + 1) _ refl (omega arith) at-loop.loop-j.invariant.2
+      simp length-set c.loop-j.invariant.1,
+      filled _ j (j + 1) _ refl (omega arith) c.loop-j.invariant.2
           ∙ sym (rw (add-one, take-suc (xor a.a a.b) j 0 (omega arith), ← (get_or-xor a.a a.b j (omega arith) (omega arith)))),
     )
 

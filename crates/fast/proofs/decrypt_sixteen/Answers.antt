@@ -9,6 +9,4 @@ decrypt_each-requires c = c.load-w.ensures.size
 
 pub returns : goal.returns
 returns c =
-    let went = c in
-    let loaded = went in
-    c.store.ensures ∙ each_deciphered _ _ loaded.load-w.ensures went.decrypt_each.ensures 16 (search rules)
+    c.store.ensures ∙ each_deciphered _ _ c.load-w.ensures c.decrypt_each.ensures 16 (search rules)

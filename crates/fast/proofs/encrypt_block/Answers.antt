@@ -9,6 +9,4 @@ use Rattle.fast.proofs.encrypt_block.Goals as goal
 pub returns : goal.returns
 unfolding encrypt_bytes
 returns c =
-    let went = c in
-    let read = went in
-    c.write_words.ensures ∙ ap (λ (w : List ℕ). bytes_of w 16) (went.encrypt_words.ensures ∙ ap (encrypt_words _) read.read_words.ensures)
+    c.write_words.ensures ∙ ap (λ (w : List ℕ). bytes_of w 16) (c.encrypt_words.ensures ∙ ap (encrypt_words _) c.read_words.ensures)

@@ -15,14 +15,9 @@ returns-then-number-ne-DONE c =
 
 pub returns : goal.returns
 returns c =
-    let put = c in
-    let made = put in
-    let read = made in
-    let keyed = read in
-    let tested = keyed in
-    let n = tested.block_number-number.ensures in
-    let a = tested.args in record {
+    let n = c.block_number-number.ensures in
+    let a = c.args in record {
       number = n;
-      written = written decrypt_bytes decrypted_sixteen a.key.now _ _ n tested.if-number-ne-DONE.false keyed.new_from_slice-keyed.ensures read.block_at.ensures
-          made.decrypt_block-text.ensures put.put_block.ensures;
+      written = written decrypt_bytes decrypted_sixteen a.key.now _ _ n c.if-number-ne-DONE.false c.new_from_slice-keyed.ensures c.block_at.ensures
+          c.decrypt_block-text.ensures c.put_block.ensures;
     }

@@ -7,7 +7,4 @@ use Rattle.state.proofs.read_words.Goals as goal
 pub returns : goal.returns
 unfolding words_of list_of
 returns c =
-    let third = c in
-    let second = third in
-    let first = second in
-    λ i. first.word_at.ensures i ∷ second.word_at-2.ensures i ∷ third.word_at-3.ensures i ∷ c.word_at-4.ensures i ∷ []
+    λ i. c.word_at.ensures i ∷ c.word_at-2.ensures i ∷ c.word_at-3.ensures i ∷ c.word_at-4.ensures i ∷ []

@@ -7,5 +7,4 @@ use Rattle.words.proofs.rotate_right.Goals as goal
 
 pub returns : goal.returns
 returns c =
-    let start = c in
-    c.rotate_left.ensures ∙ rotated_right start.args.x (omega arith) (start.args.n % 32) (omega arith)
+    c.rotate_left.ensures ∙ rotated_right c.args.x (omega arith) (c.args.n % 32) (omega arith)

@@ -10,15 +10,12 @@ loop-i-init c = (omega arith, undoing_none _ _ c.undo_six.ensures.size)
 
 pub loop-i-preserved : goal.loop-i-preserved
 loop-i-preserved c =
-    let first = c in
-    let at = first.loop-i in
+    let at = c.loop-i in
     let e : 3 - at.i ≡ 2 - at.i + 1 = omega arith in
     let f : 3 - (at.i + 1) ≡ 2 - at.i = omega arith in
-    (omega arith, rw f (undoing_turn _ (2 - at.i) (rw e at at.invariant.1) first.undo_7_6.ensures c.undo_six-in-loop-i.ensures))
+    (omega arith, rw f (undoing_turn _ (2 - at.i) (rw e at at.invariant.1) c.undo_7_6.ensures c.undo_six-in-loop-i.ensures))
 
 pub returns : goal.returns
 returns c =
-    let at = c in
-    let six = at in
-    let e : at.loop-i.i ≡ 3 = omega arith in
-    undone _ six.undo_last.ensures six.undo_six.ensures (rw e at at.loop-i.invariant.1)
+    let e : c.loop-i.i ≡ 3 = omega arith in
+    undone _ c.undo_last.ensures c.undo_six.ensures (rw e at c.loop-i.invariant.1)

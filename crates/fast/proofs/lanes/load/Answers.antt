@@ -11,14 +11,11 @@ pub loop-j-init : goal.loop-j-init
 loop-j-init c = (omega arith, record { size = refl; each = λ j h. absurd (omega arith) })
 
 pub loop-j-preserved : goal.loop-j-preserved
-loop-j-preserved c =
-    let read = c in
-    let found = read in
-    let at-loop = found in (
-      omega arith,
-      load_lane _ _ _ at-loop.loop-j.invariant.1 (omega arith) read.read_words-x.type_inv.1.0.1
-          (read.read_words-x.ensures ∙ ap (λ (b : List ℕ). words_of b 4) found.block_at.ensures) c.put_lane.ensures,
-    )
+loop-j-preserved c = (
+  omega arith,
+  load_lane _ _ _ c.loop-j.invariant.1 (omega arith) c.read_words-x.type_inv.1.0.1
+      (c.read_words-x.ensures ∙ ap (λ (b : List ℕ). words_of b 4) c.block_at.ensures) c.put_lane.ensures,
+)
 
 pub returns : goal.returns
 returns c =

@@ -17,17 +17,13 @@ loop-j-init c = (omega arith, refl, filled_none _)
 
 pub loop-j-preserved : goal.loop-j-preserved
 loop-j-preserved c =
-    let put = c in
-    let wrote = put in
-    let read = wrote in
-    let at-loop = read in
-    let at = at-loop.loop-j in
-    let w = at-loop.args.w.now in
-    let bytes = wrote.write_words-x.result in
-    let size : length bytes ≡ 16 = wrote.write_words-x.type_inv.1.0.1 in
-    let same : bytes ≡ bytes_of (lane w at.j) 16 = wrote.write_words-x.ensures ∙ ap (λ (x : List ℕ). bytes_of x 16) read.lane.ensures in
+    let at = c.loop-j in
+    let w = c.args.w.now in
+    let bytes = c.write_words-x.result in
+    let size : length bytes ≡ 16 = c.write_words-x.type_inv.1.0.1 in
+    let same : bytes ≡ bytes_of (lane w at.j) 16 = c.write_words-x.ensures ∙ ap (λ (x : List ℕ). bytes_of x 16) c.lane.ensures in
     let more = filled_more _ at.out at.j (lane_bytes w at.j) bytes at.invariant.2 size (omega (arith, at.invariant.1)) in
-    rw put.put_block.ensures (omega arith, more.size ∙ refl, rw (lane_bytes_more w at.j, ← same) more)
+    rw c.put_block.ensures (omega arith, more.size ∙ refl, rw (lane_bytes_more w at.j, ← same) more)
 
 pub returns : goal.returns
 returns c =

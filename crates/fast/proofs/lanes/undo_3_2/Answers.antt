@@ -11,15 +11,9 @@ loop-j-init c = none_yet _ _ (search rules)
 
 pub loop-j-preserved : goal.loop-j-preserved
 loop-j-preserved c =
-    let second = c in
-    let first = second in
-    let read = first in
-    let at-loop = read in
-    let low = at-loop in
-    let up = low in
-    let a = up.args in
-    next_pair _ (8 * a.t + 3) (8 * a.t + 2) 3 2 _ _ _ _ (omega arith) (omega arith) (omega arith) at-loop.loop-j.invariant (omega arith) second.unmixed-z.type_inv.1.0.1
-    up.round_key-upper.ensures low.round_key-lower.ensures read.lane-x.ensures first.unmixed-y.ensures second.unmixed-z.ensures c.put_lane.ensures
+    let a = c.args in
+    next_pair _ (8 * a.t + 3) (8 * a.t + 2) 3 2 _ _ _ _ (omega arith) (omega arith) (omega arith) c.loop-j.invariant (omega arith) c.unmixed-z.type_inv.1.0.1
+    c.round_key-upper.ensures c.round_key-lower.ensures c.lane-x.ensures c.unmixed-y.ensures c.unmixed-z.ensures c.put_lane.ensures
 
 pub returns : goal.returns
 returns c = all_done _ c.loop-j.invariant (omega arith)

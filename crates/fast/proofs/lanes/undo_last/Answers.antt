@@ -12,16 +12,9 @@ loop-j-init c = none_yet _ _ (search rules)
 
 pub loop-j-preserved : goal.loop-j-preserved
 loop-j-preserved c =
-    let second = c in
-    let first = second in
-    let read = first in
-    let at-loop = read in
-    let low = at-loop in
-    let up = low in
-    let last = up in
-    next_lane _ _ _ _ at-loop.loop-j.invariant (omega arith) second.unmixed-z.type_inv.1.0.1 read.lane-x.ensures
-    (second.unmixed-z.ensures ∙ undoes _ 30 6 _ refl low.round_key-lower.ensures
-    ∙ ap (unround _ 30) (first.unmixed_last-y.ensures ∙ undoes_last _ _ up.round_key-upper.ensures last.round_key-after.ensures))
+    next_lane _ _ _ _ c.loop-j.invariant (omega arith) c.unmixed-z.type_inv.1.0.1 c.lane-x.ensures
+    (c.unmixed-z.ensures ∙ undoes _ 30 6 _ refl c.round_key-lower.ensures
+    ∙ ap (unround _ 30) (c.unmixed_last-y.ensures ∙ undoes_last _ _ c.round_key-upper.ensures c.round_key-after.ensures))
     c.put_lane.ensures
 
 pub returns : goal.returns

@@ -11,9 +11,8 @@ loop-i-init c = (search rules, refl)
 
 pub loop-i-preserved : goal.loop-i-preserved
 loop-i-preserved c =
-    let went = c in
-    let at = went.loop-i in
-    (omega arith, unturn _ _ _ _ at.i (omega arith) went.uneighth-y.ensures c.unseven-z.ensures ∙ at.invariant.1)
+    let at = c.loop-i in
+    (omega arith, unturn _ _ _ _ at.i (omega arith) c.uneighth-y.ensures c.unseven-z.ensures ∙ at.invariant.1)
 
 pub returns : goal.returns
 unfolding unrounds

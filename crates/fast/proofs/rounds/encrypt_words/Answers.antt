@@ -12,9 +12,8 @@ loop-t-init c = (search rules, refl)
 
 pub loop-t-preserved : goal.loop-t-preserved
 loop-t-preserved c =
-    let went = c in
-    let at = went.loop-t in
-    (omega arith, turn _ _ _ _ _ at.t (omega arith) at.invariant.1 went.seven-y.ensures c.eighth-z.ensures)
+    let at = c.loop-t in
+    (omega arith, turn _ _ _ _ _ at.t (omega arith) at.invariant.1 c.seven-y.ensures c.eighth-z.ensures)
 
 pub returns : goal.returns
 returns c =

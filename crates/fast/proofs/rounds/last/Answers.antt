@@ -9,11 +9,8 @@ use Rattle.fast.proofs.rounds.last.Goals as goal
 pub returns : goal.returns
 unfolding last mix
 returns c =
-    let boxed = c in
-    let mixed = boxed in
-    let after = mixed in
-    let b = after.args.b in
+    let b = c.args.b in
     c.xor-2.ensures
     ∙ ap₂ xor_words
-    (boxed.s_box.ensures ∙ ap (box_words 31) (mixed.xor.ensures ∙ ap (xor_words b) after.round_key-k.ensures))
-    after.round_key-after.ensures
+    (c.s_box.ensures ∙ ap (box_words 31) (c.xor.ensures ∙ ap (xor_words b) c.round_key-k.ensures))
+    c.round_key-after.ensures

@@ -11,12 +11,9 @@ use Rattle.fast.proofs.rounds.round.Goals as goal
 pub returns : goal.returns
 unfolding round mix
 returns c =
-    let boxed = c in
-    let mixed = boxed in
-    let keyed = mixed in
-    let a = keyed.args in
+    let a = c.args in
     let same : a.n % 8 ≡ (8 * a.t + a.n) % 8 = omega arith in
     c.linear_transform.ensures
     ∙ ap linear_transform
-    (boxed.s_box.ensures ∙ ap (λ (k : ℕ). box_on (box k) mixed.xor.result) same
-    ∙ ap (box_on _) (mixed.xor.ensures ∙ ap (xor_words a.b) keyed.round_key.ensures))
+    (c.s_box.ensures ∙ ap (λ (k : ℕ). box_on (box k) c.xor.result) same
+    ∙ ap (box_on _) (c.xor.ensures ∙ ap (xor_words a.b) c.round_key.ensures))

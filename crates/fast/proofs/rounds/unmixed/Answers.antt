@@ -8,7 +8,5 @@ use Rattle.fast.proofs.rounds.unmixed.Goals as goal
 
 pub returns : goal.returns
 returns c =
-    let boxed = c in
-    let turned = boxed in
-    let a = turned.args in
-    c.xor.ensures ∙ ap (λ (x : List ℕ). xor_words x a.k) (boxed.s_box_inv.ensures ∙ ap (box_inv_words a.n) turned.linear_transform_inv.ensures)
+    let a = c.args in
+    c.xor.ensures ∙ ap (λ (x : List ℕ). xor_words x a.k) (c.s_box_inv.ensures ∙ ap (box_inv_words a.n) c.linear_transform_inv.ensures)

@@ -8,7 +8,5 @@ use Rattle.fast.proofs.rounds.unmixed_last.Goals as goal
 
 pub returns : goal.returns
 returns c =
-    let boxed = c in
-    let mixed = boxed in
-    let a = mixed.args in
-    c.xor-2.ensures ∙ ap (λ (x : List ℕ). xor_words x a.k) (boxed.s_box_inv.ensures ∙ ap (box_inv_words 31) mixed.xor.ensures)
+    let a = c.args in
+    c.xor-2.ensures ∙ ap (λ (x : List ℕ). xor_words x a.k) (c.s_box_inv.ensures ∙ ap (box_inv_words 31) c.xor.ensures)

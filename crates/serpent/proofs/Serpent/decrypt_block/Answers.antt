@@ -9,16 +9,13 @@ use Rattle.serpent.proofs.Serpent.decrypt_block.Goals as goal
 pub loop-n-preserved : goal.loop-n-preserved
 unfolding unrounds unround
 loop-n-preserved c =
-    let boxed = c in
-    let turned = boxed in
-    let at-loop = turned in
-    let at = at-loop.loop-n in
-    let keys = at-loop.args.round_keys.now in
+    let at = c.loop-n in
+    let keys = c.args.round_keys.now in
     let e : 31 - at.n ≡ suc (30 - at.n) = omega arith in
     let f : 31 - (at.n + 1) ≡ 30 - at.n = omega arith in
     let h = rw e at at.invariant.1 in
     let undone : c.mix_key-next.result ≡ unround keys (30 - at.n) at.b =
-    c.mix_key-next.ensures ∙ ap (mix keys (30 - at.n)) (boxed.round_box_inv-xb.ensures ∙ ap (box_inv_words (30 - at.n)) turned.linear_transform_inv-s.ensures) in
+    c.mix_key-next.ensures ∙ ap (mix keys (30 - at.n)) (c.round_box_inv-xb.ensures ∙ ap (box_inv_words (30 - at.n)) c.linear_transform_inv-s.ensures) in
     (omega arith, rw f (ap (unrounds keys (30 - at.n)) undone ∙ h))
 
 pub returns : goal.returns

@@ -16,7 +16,4 @@ expand_key-key-requires c = (accepted _ (sym c.key_number-number.ensures ∙ c.i
 pub returns : goal.returns
 unfolding on_done schedule
 returns c =
-    let made = c in
-    let expanded = made in
-    let tested = expanded in
-    simp (eq-eqb _ _ tested.if-number-ne-DONE.false, ← tested.key_number-number.ensures, c.make_round_keys-round_keys.ensures, made.make_prekeys-words.ensures, expanded.expand_key-key.ensures)
+    simp (eq-eqb _ _ c.if-number-ne-DONE.false, ← c.key_number-number.ensures, c.make_round_keys-round_keys.ensures, c.make_prekeys-words.ensures, c.expand_key-key.ensures)

@@ -18,11 +18,9 @@ returns-then-words-ne16 c =
 pub returns-then-boxed-ne-DONE : goal.returns-then-boxed-ne-DONE
 unfolding chosen
 returns-then-boxed-ne-DONE c =
-    let boxed = c in
-    let tested = boxed in
-    let index = tested.args.index in
-    let number : boxed.apply_s-boxed.result.number ≡ box_number index = ap (λ (b : Boxed). b.number) boxed.apply_s-boxed.ensures in
-    let n = no_box _ _ _ tested.if-words-ne16.false (λ z. c.if-boxed-ne-DONE.true (number ∙ z)) in record {
+    let index = c.args.index in
+    let number : c.apply_s-boxed.result.number ≡ box_number index = ap (λ (b : Boxed). b.number) c.apply_s-boxed.ensures in
+    let n = no_box _ _ _ c.if-words-ne16.false (λ z. c.if-boxed-ne-DONE.true (number ∙ z)) in record {
       number = number ∙ sym n;
       written = sym (left_refused _ _ (λ z. c.if-boxed-ne-DONE.true (number ∙ sym n ∙ z)));
     }
@@ -30,17 +28,10 @@ returns-then-boxed-ne-DONE c =
 pub returns : goal.returns
 unfolding chosen
 returns c = let w = (
-    let put = c in
-    let wrote = put in
-    let there = wrote in
-    let boxed = there in
-    let read = boxed in
-    let block = read in
-    let tested = block in
-    let index = tested.args.index in
-    let number : boxed.apply_s-boxed.result.number ≡ box_number index = ap (λ (b : Boxed). b.number) boxed.apply_s-boxed.ensures in
-    let zero = sym number ∙ there.if-boxed-ne-DONE.false in
-    let words = ap (λ (b : Boxed). b.words) boxed.apply_s-boxed.ensures ∙ done _ _ zero in
-    answered _ _ (good_boxed _ _ _ tested.if-words-ne16.false zero)
-    (through (box_words _) _ tested.if-words-ne16.false block.block_at.ensures read.read_words.ensures words wrote.write_words-bytes.ensures)
-    wrote.write_words-bytes.type_inv.1.0.1 put.put_answer.ensures.number put.put_answer.ensures.written) in record { number = w.0; written = w.1 }
+    let index = c.args.index in
+    let number : c.apply_s-boxed.result.number ≡ box_number index = ap (λ (b : Boxed). b.number) c.apply_s-boxed.ensures in
+    let zero = sym number ∙ c.if-boxed-ne-DONE.false in
+    let words = ap (λ (b : Boxed). b.words) c.apply_s-boxed.ensures ∙ done _ _ zero in
+    answered _ _ (good_boxed _ _ _ c.if-words-ne16.false zero)
+    (through (box_words _) _ c.if-words-ne16.false c.block_at.ensures c.read_words.ensures words c.write_words-bytes.ensures)
+    c.write_words-bytes.type_inv.1.0.1 c.put_answer.ensures.number c.put_answer.ensures.written) in record { number = w.0; written = w.1 }

@@ -17,8 +17,5 @@ returns-then-number-ne-DONE c =
 
 pub returns : goal.returns
 returns c = let w = (
-    let put = c in
-    let made = put in
-    let tested = made in
-    answered _ _ (good_key _ _ 32 (sym tested.key_number-number.ensures ∙ tested.if-number-ne-DONE.false)) made.padded_key-padded.ensures
-    made.padded_key-padded.type_inv.1.0.1 put.put_answer.ensures.number put.put_answer.ensures.written) in record { number = w.0; written = w.1 }
+    answered _ _ (good_key _ _ 32 (sym c.key_number-number.ensures ∙ c.if-number-ne-DONE.false)) c.padded_key-padded.ensures
+    c.padded_key-padded.type_inv.1.0.1 c.put_answer.ensures.number c.put_answer.ensures.written) in record { number = w.0; written = w.1 }

@@ -15,12 +15,6 @@ returns-then-words-ne16 c =
 
 pub returns : goal.returns
 returns c = let w = (
-    let put = c in
-    let wrote = put in
-    let changed = wrote in
-    let read = changed in
-    let block = read in
-    let tested = block in
-    answered _ _ (good_words _ _ tested.if-words-ne16.false)
-    (through linear_transform _ tested.if-words-ne16.false block.block_at.ensures read.read_words.ensures changed.linear_transform.ensures wrote.write_words-bytes.ensures)
-    wrote.write_words-bytes.type_inv.1.0.1 put.put_answer.ensures.number put.put_answer.ensures.written) in record { number = w.0; written = w.1 }
+    answered _ _ (good_words _ _ c.if-words-ne16.false)
+    (through linear_transform _ c.if-words-ne16.false c.block_at.ensures c.read_words.ensures c.linear_transform.ensures c.write_words-bytes.ensures)
+    c.write_words-bytes.type_inv.1.0.1 c.put_answer.ensures.number c.put_answer.ensures.written) in record { number = w.0; written = w.1 }

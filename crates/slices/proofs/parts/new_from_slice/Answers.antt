@@ -18,11 +18,8 @@ returns-then-keyed-ne-DONE c =
 
 pub returns : goal.returns
 returns c = let w = (
-    let put = c in
-    let made = put in
-    let tested = made in
-    let keyed = tested.new_from_slice-keyed.ensures in
-    let zero = sym (ap (λ (k : Keyed). k.number) keyed) ∙ tested.if-keyed-ne-DONE.false in
+    let keyed = c.new_from_slice-keyed.ensures in
+    let zero = sym (ap (λ (k : Keyed). k.number) keyed) ∙ c.if-keyed-ne-DONE.false in
     let keys = ap (λ (k : Keyed). k.cipher.round_keys) keyed ∙ done _ _ zero in
-    answered _ _ (good_key _ _ 528 zero) (made.round_key_bytes-bytes.ensures ∙ ap (λ (k : List ℕ). bytes_of k 528) keys)
-    made.round_key_bytes-bytes.type_inv.1.0.1 put.put_answer.ensures.number put.put_answer.ensures.written) in record { number = w.0; written = w.1 }
+    answered _ _ (good_key _ _ 528 zero) (c.round_key_bytes-bytes.ensures ∙ ap (λ (k : List ℕ). bytes_of k 528) keys)
+    c.round_key_bytes-bytes.type_inv.1.0.1 c.put_answer.ensures.number c.put_answer.ensures.written) in record { number = w.0; written = w.1 }

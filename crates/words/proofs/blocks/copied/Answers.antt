@@ -10,13 +10,12 @@ use Rattle.words.proofs.blocks.copied.Goals as goal
 
 pub loop-j-preserved : goal.loop-j-preserved
 loop-j-preserved c =
-    let at-loop = c in
-    let s = at-loop.args.s.now in
-    let at = at-loop.args.at in
-    let j = at-loop.loop-j.j in (
+    let s = c.args.s.now in
+    let at = c.args.at in
+    let j = c.loop-j.j in (
       omega arith,
-      simp length-set at-loop.loop-j.invariant.1,
-      filled _ j (j + 1) _ refl (omega arith) at-loop.loop-j.invariant.2
+      simp length-set c.loop-j.invariant.1,
+      filled _ j (j + 1) _ refl (omega arith) c.loop-j.invariant.2
           ∙ sym (rw (add-one, take-suc (drop at s) j 0 (omega (arith, length-drop at s)), get_or-drop)),
     )
 

@@ -13,13 +13,12 @@ loop-j-init c = (omega arith, refl, paste-zero c.args.out.now c.args.at c.args.b
 
 pub loop-j-preserved : goal.loop-j-preserved
 loop-j-preserved c =
-    let at-loop = c in
-    let a = at-loop.args in
-    let j = at-loop.loop-j.j in
-    let size : length a.block ≡ 16 = at-loop.well_formed.0.1.0.1 in (
+    let a = c.args in
+    let j = c.loop-j.j in
+    let size : length a.block ≡ 16 = c.well_formed.0.1.0.1 in (
       omega arith,
-      simp length-set at-loop.loop-j.invariant.1,
-      ap (λ (l : List ℕ). set l (a.at + j) (get_or a.block j 0)) at-loop.loop-j.invariant.2
+      simp length-set c.loop-j.invariant.1,
+      ap (λ (l : List ℕ). set l (a.at + j) (get_or a.block j 0)) c.loop-j.invariant.2
           ∙ rw add-one (paste-suc a.out.now a.at a.block j 0 (omega arith) (omega arith)),
     )
 
