@@ -76,17 +76,22 @@ entries() {
         inside { gsub(/\/\*.*\*\/|,|=/, " "); sub(/^ *BARKMOTTLE_/, ""); print $1, $2 }' "$2"
 }
 
-# The constants of crate answers, and the numbers of crate event's classes that leave it, as "NAME value".
+# The cases of one enum of a Rattle source, as "NAME value".
+cases() {
+    awk -v want="pub enum $1 {" '
+        $0 == want { inside = 1; next }
+        /^}/ { inside = 0 }
+        inside && /^ +[A-Za-z]+ = [0-9]+,$/ {
+            gsub(/[,=]/, " "); name = $1
+            while (match(name, /[a-z][A-Z]/)) name = substr(name, 1, RSTART) "_" substr(name, RSTART + 1)
+            print toupper(name), $2 }' "$2"
+}
+# The number of what is done and those of crate answers' refusals, and those of crate event's classes that leave it.
 numbers() {
-    awk '/^pub const [A-Z_]+: u32 = [0-9]+;/ { gsub(/[:;]/, ""); print $3, $6 }' "$1"
+    awk '/^ +Ok\(_\) => [0-9]+,$/ { gsub(/,/, ""); print "DONE", $3 }' "$1"
+    cases Refusal "$1"
 }
-classes() {
-    awk '/Class::[A-Za-z]+ => [0-9]+,/ {
-        sub(/.*Class::/, ""); gsub(/[,=>]/, " "); name = $1
-        if (name == "Unreadable") next
-        while (match(name, /[a-z][A-Z]/)) name = substr(name, 1, RSTART) "_" substr(name, RSTART + 1)
-        print toupper(name), $2 }' "$1"
-}
+classes() { cases Class "$1" | grep -v '^UNREADABLE '; }
 
 # agree HEADER FOLDER-OF-EXPORTS FILE-OF-NUMBERS: says nothing and succeeds where all agrees.
 agree() {
@@ -156,7 +161,7 @@ sed '/barkmottle_open_frame(/s/const uint8_t/uint8_t/' "$header" >"$work/h"
 must_fail "a slice that is written"
 sed 's/BARKMOTTLE_BEYOND = 9/BARKMOTTLE_BEYOND = 19/' "$header" >"$work/h"
 must_fail "a number changed in the header"
-sed 's/^pub const VERSION: u32 = 7;/pub const VERSION: u32 = 8;/' "$answers" >"$work/a"
+sed 's/^    Version = 7,/    Version = 17,/' "$answers" >"$work/a"
 must_fail "a number changed in the source"
 sed 's/BARKMOTTLE_DISCONNECT = 3/BARKMOTTLE_DISCONNECT = 4/' "$header" >"$work/h"
 must_fail "a class changed"

@@ -11,7 +11,7 @@ use borrow.Author.Tests.{lt-ltb, le-ltb, eq-eqb, ne_eqb}
 use lib.Dec.{eqb}
 use lib.ListN.{length, drop, get_or, set}
 use lib.Seq.{paste, paste-suc, take_all, drop_at}
-use Rattle.answers.specs.Answers.{◌when◌, on_done, first_number, front, left, room_number}
+use Rattle.answers.specs.Answers.{◌when◌, on_done, first_number, front, left, single_number, room_number}
 
 -- ---- fields
 pub done : {A : Type 0} {n : ℕ} (value else : A) → n ≡ 0 → on_done n value else ≡ value
@@ -73,6 +73,15 @@ next_pasted answer out i h l =
 pub pasted : (answer out : List ℕ) → paste out 0 answer (length answer) ≡ front answer out
 unfolding front
 pasted answer out = ap₂ (λ (a : List ℕ) (n : ℕ). a ++ drop n out) (take_all (length answer) answer (omega arith)) (zero-add (length answer))
+
+-- ---- a single block
+pub single_is : (n : ℕ) → n ≡ 16 → single_number n ≡ 0
+unfolding ◌when◌
+single_is n e = simp (eq-eqb _ _ e)
+
+pub single_not : (n : ℕ) → (n ≡ 16 → ⊥) → single_number n ≡ 2
+unfolding ◌when◌
+single_not n h = simp (ne_eqb _ _ h)
 
 -- ---- the last test
 pub last_test : (n : ℕ) → first_number (n ∷ []) ≡ n

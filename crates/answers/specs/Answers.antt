@@ -1,5 +1,5 @@
 -- What an operation answers: a number by its order of tests, and what it leaves in a lent buffer.
-use Rattle.std.specs.Prelude.{ℕ, Bool, cond, List, [], ◌∷◌, ◌++◌, eqb, ltb, length, drop}
+use Rattle.std.specs.Prelude.{ℕ, Bool, cond, not, List, [], ◌∷◌, ◌++◌, eqb, ltb, length, drop}
 
 -- a test: its number where it holds, and 0 where it does not
 infix 68 ◌when◌
@@ -22,6 +22,10 @@ front answer out = answer ++ drop (length answer) out
 -- what an operation leaves in its output buffer: its answer in front, or, where it refuses, every byte as it was
 unfoldable pub left : ℕ → List ℕ → List ℕ → List ℕ
 left number answer out = on_done number (front answer out) out
+
+-- the test of a single block by its bytes: 2 where it has not exactly sixteen
+abbrev pub single_number : ℕ → ℕ
+single_number bytes = 2 when not (eqb bytes 16)
 
 -- the test of a buffer for an answer, by the bytes that they have: 5 where the buffer is shorter
 abbrev pub room_number : ℕ → ℕ → ℕ

@@ -3,6 +3,5 @@
 
 pub mod cipher;
 pub mod events;
-mod fields;
 pub mod log;
 pub mod searches;

@@ -1,20 +1,14 @@
 // Serpent's boxes as word circuits, and its linear transform (src/bitslice.rs of the Rust).
 #![tactic(auto)]
 
-ghost use Rattle.std.specs.Prelude.{◌≡◌, replicate};
+ghost use Rattle.std.specs.Prelude.{◌≡◌, IfOk};
+ghost use Rattle.answers.specs.Numbers.{number};
 ghost use Rattle.bitslice.specs.Boxes.{box_on, box, inverse, box_words, box_inv_words};
-ghost use Rattle.bitslice.specs.Chosen.{chosen, applied, applied_inv};
+ghost use Rattle.bitslice.specs.Chosen.{box_number};
 ghost use Rattle.bitslice.specs.Linear.{linear_transform, linear_transform_inv};
 
-use answers::{DONE, NO_BOX};
+use answers::Refusal;
 use words::{Words, rotate_left, rotate_right};
-
-// What choosing a box answers: the number, and the words that the box gives.
-#[derive(Drop)]
-pub struct Boxed {
-    pub number: u32,
-    pub words: Words,
-}
 
 // The linear transform of four words.
 pub fn linear_transform(mut words: Words) -> Words
@@ -50,89 +44,61 @@ pub fn linear_transform_inv(mut words: Words) -> Words
     words
 }
 
-fn done(words: Words) -> Boxed
-    ensures { result ≡ chosen 0 words }
-{
-    Boxed {
-        number: DONE,
-        words,
-    }
-}
-
-fn no_box() -> Boxed
-    ensures { (result.number ≡ 8) × (result.words ≡ replicate 4 0) }
-{
-    Boxed {
-        number: NO_BOX,
-        words: [0u32; 4],
-    }
-}
-
 // Box index, reduced by 8, on four words.
-pub fn apply_s(index: usize, words: Words) -> Boxed
-    ensures { result ≡ applied index words }
+#[inline(always)]
+#[tactic(auto, using(crate::proofs::Arms::always))]
+pub fn apply_s(index: usize, words: Words) -> Result<Words, Refusal>
+    ensures number { number result ≡ box_number index }
+    ensures words { IfOk result (λ w. w ≡ box_words index words) }
 {
     match index % 8 {
-        0 => done(sbox_e0(words)),
-        1 => done(sbox_e1(words)),
-        2 => done(sbox_e2(words)),
-        3 => done(sbox_e3(words)),
-        4 => done(sbox_e4(words)),
-        5 => done(sbox_e5(words)),
-        6 => done(sbox_e6(words)),
-        7 => done(sbox_e7(words)),
-        _ => no_box(),
+        0 => Ok(sbox_e0(words)),
+        1 => Ok(sbox_e1(words)),
+        2 => Ok(sbox_e2(words)),
+        3 => Ok(sbox_e3(words)),
+        4 => Ok(sbox_e4(words)),
+        5 => Ok(sbox_e5(words)),
+        6 => Ok(sbox_e6(words)),
+        7 => Ok(sbox_e7(words)),
+        _ => Err(Refusal::NoBox),
     }
 }
 
 // The inverse of box index, reduced by 8, on four words.
-pub fn apply_s_inv(index: usize, words: Words) -> Boxed
-    ensures { result ≡ applied_inv index words }
+#[inline(always)]
+#[tactic(auto, using(crate::proofs::Arms::always))]
+pub fn apply_s_inv(index: usize, words: Words) -> Result<Words, Refusal>
+    ensures number { number result ≡ box_number index }
+    ensures words { IfOk result (λ w. w ≡ box_inv_words index words) }
 {
     match index % 8 {
-        0 => done(sbox_d0(words)),
-        1 => done(sbox_d1(words)),
-        2 => done(sbox_d2(words)),
-        3 => done(sbox_d3(words)),
-        4 => done(sbox_d4(words)),
-        5 => done(sbox_d5(words)),
-        6 => done(sbox_d6(words)),
-        7 => done(sbox_d7(words)),
-        _ => no_box(),
+        0 => Ok(sbox_d0(words)),
+        1 => Ok(sbox_d1(words)),
+        2 => Ok(sbox_d2(words)),
+        3 => Ok(sbox_d3(words)),
+        4 => Ok(sbox_d4(words)),
+        5 => Ok(sbox_d5(words)),
+        6 => Ok(sbox_d6(words)),
+        7 => Ok(sbox_d7(words)),
+        _ => Err(Refusal::NoBox),
     }
 }
 
-// Box i, reduced by 8, without a number, and its inverse. The loop over the rounds is the one caller of each: with a second it would not be compiled into that loop.
+// Box i, reduced by 8, and its inverse: there is one for every i.
+#[inline(always)]
+#[tactic(auto, using(crate::proofs::Arms::always))]
 pub fn round_box(i: usize, words: Words) -> Words
     ensures { result ≡ box_words i words }
 {
-    match i % 8 {
-        0 => sbox_e0(words),
-        1 => sbox_e1(words),
-        2 => sbox_e2(words),
-        3 => sbox_e3(words),
-        4 => sbox_e4(words),
-        5 => sbox_e5(words),
-        6 => sbox_e6(words),
-        7 => sbox_e7(words),
-        _ => words,
-    }
+    apply_s(i, words).unwrap_or(words)
 }
 
+#[inline(always)]
+#[tactic(auto, using(crate::proofs::Arms::always))]
 pub fn round_box_inv(i: usize, words: Words) -> Words
     ensures { result ≡ box_inv_words i words }
 {
-    match i % 8 {
-        0 => sbox_d0(words),
-        1 => sbox_d1(words),
-        2 => sbox_d2(words),
-        3 => sbox_d3(words),
-        4 => sbox_d4(words),
-        5 => sbox_d5(words),
-        6 => sbox_d6(words),
-        7 => sbox_d7(words),
-        _ => words,
-    }
+    apply_s_inv(i, words).unwrap_or(words)
 }
 
 fn sbox_e0(words: Words) -> Words

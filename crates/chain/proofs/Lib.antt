@@ -4,7 +4,7 @@ pub mod Links
 pub mod Buffers
 pub mod Turns
 pub mod Numbers
-pub mod Chains
 pub mod Lengths
 pub mod RoundTrip
 pub mod Damage
+pub mod Chains

@@ -1,13 +1,13 @@
 -- The orders of tests: each number where its test is the first to hold, and what number 0 tells of the lengths.
 -- Assumes nothing.
-use mathlib.Core.Path.{◌≡◌, sym, ◌∙◌}
+use mathlib.Core.Path.{◌≡◌, ◌∙◌}
 use Prim.Native.Nat.{ℕ, suc, ◌≤◌, ◌<◌, ◌%◌, ◌/◌}
 use native.Mathlib.Omega.{arith}
 use borrow.Author.Tests.{lt-ltb, le-ltb, ltb-false, eq-eqb, ne_eqb, eqb-true}
 use Rattle.answers.specs.Answers.{◌when◌, on_done, first_number}
 use Rattle.answers.proofs.Answers.{first_here, passed, not_held, holds}
 use Rattle.serpent.specs.Keys.{key_number}
-use Rattle.chain.specs.Slices.{block_limit, blocks_number, chain_number}
+use Rattle.chain.specs.Slices.{block_limit, blocks_number, lengths_number, chain_number}
 
 -- ---- under round keys
 module _ (text out : ℕ) where
@@ -26,6 +26,24 @@ module _ (text out : ℕ) where
   pub room_blocks : blocks_number text out ≡ 0 → text ≤ out
   unfolding blocks_number
   room_blocks e = ltb-false out text (not_held 4 _ (passed _ _ (passed _ _ e).1).0)
+
+-- ---- the lengths of text and start block, as the code comes to them
+module _ (text start : ℕ) where
+  pub uneven : (text % 16 ≡ 0 → ⊥) → 2 ≡ lengths_number text start
+  unfolding lengths_number first_number on_done ◌when◌
+  uneven h = simp (ne_eqb _ _ h)
+
+  pub other_start : text % 16 ≡ 0 → (start ≡ 16 → ⊥) → 3 ≡ lengths_number text start
+  unfolding lengths_number first_number on_done ◌when◌
+  other_start t h = simp (eq-eqb _ _ t, ne_eqb _ _ h)
+
+  pub past_limit : text % 16 ≡ 0 → start ≡ 16 → block_limit < text / 16 → 4 ≡ lengths_number text start
+  unfolding lengths_number first_number on_done ◌when◌
+  past_limit t s h = simp (eq-eqb _ _ t, eq-eqb _ _ s, lt-ltb _ _ h)
+
+  pub within_limit : text % 16 ≡ 0 → start ≡ 16 → text / 16 ≤ block_limit → 0 ≡ lengths_number text start
+  unfolding lengths_number first_number on_done ◌when◌
+  within_limit t s h = simp (eq-eqb _ _ t, eq-eqb _ _ s, le-ltb _ _ h)
 
 -- ---- under a key
 pub record Ready (key text start out : ℕ) : Type 0 where
@@ -63,10 +81,6 @@ module _ (key text start out : ℕ) where
   pub ragged : key_number key ≡ 0 → (text % 16 ≡ 0 → ⊥) → chain_number key text start out ≡ 2
   unfolding chain_number first_number on_done ◌when◌
   ragged k h = simp (k, ne_eqb _ _ h)
-
-  -- as the code comes to it
-  pub uneven : {number : ℕ} → number ≡ key_number key → number ≡ 0 → (text % 16 ≡ 0 → ⊥) → 2 ≡ chain_number key text start out
-  uneven k z h = sym (ragged (sym k ∙ z) h)
 
   pub bad_start : key_number key ≡ 0 → text % 16 ≡ 0 → (start ≡ 16 → ⊥) → chain_number key text start out ≡ 3
   unfolding chain_number first_number on_done ◌when◌

@@ -21,6 +21,10 @@ deciphered ks start cipher = join (decipher (decrypt_bytes ks) start (blocks_of 
 unfoldable pub blocks_number : ℕ → ℕ → ℕ
 blocks_number text out = first_number (2 when not (eqb (text % 16) 0) ∷ 5 when ltb out text ∷ [])
 
+-- the tests 2, 3, 4 of a chain, on the lengths of text and start block
+unfoldable pub lengths_number : ℕ → ℕ → ℕ
+lengths_number text start = first_number (2 when not (eqb (text % 16) 0) ∷ 3 when not (eqb start 16) ∷ 4 when ltb block_limit (text / 16) ∷ [])
+
 -- the tests 1, 2, 3, 4, 5 of a chain, on the lengths of key, text, start block and output buffer
 unfoldable pub chain_number : ℕ → ℕ → ℕ → ℕ → ℕ
 chain_number key text start out =

@@ -1,15 +1,17 @@
 // The CBC chain: each cipher block is made of its text block and the cipher block before it.
 #![tactic(auto)]
 
-ghost use Rattle.std.specs.Prelude.{◌≡◌, ◌+◌, ◌*◌, ◌≤◌, length};
+ghost use Rattle.std.specs.Prelude.{◌≡◌, ℕ, List, ◌+◌, ◌*◌, ◌≤◌, IfOk, length};
 ghost use Rattle.answers.specs.Answers.{front, left};
+ghost use Rattle.answers.specs.Numbers.{number};
 ghost use Rattle.words.specs.Blocks.{block_at, put_at};
+ghost use Rattle.serpent.specs.Schedule.{schedule};
 ghost use Rattle.serpent.specs.Block.{encrypt_bytes, decrypt_bytes};
 ghost use Rattle.chain.specs.Chain.{xor};
 ghost use Rattle.chain.specs.Turns.{Onward};
-ghost use Rattle.chain.specs.Slices.{enciphered, deciphered, blocks_number, chain_number, encrypted_chain, decrypted_chain};
+ghost use Rattle.chain.specs.Slices.{enciphered, deciphered, blocks_number, lengths_number, chain_number, encrypted_chain, decrypted_chain};
 
-use answers::{DONE, OUT_SHORT, START_LENGTH, TEXT_LENGTH, TOO_MANY};
+use answers::Refusal;
 use fast::{decrypt_block, decrypt_sixteen, encrypt_block};
 use serpent::Serpent;
 use words::blocks::{block_at, put_block};
@@ -38,19 +40,6 @@ pub fn decrypt_link(round_keys: &[u32; 132], cipher: [u8; 16], before: [u8; 16])
     ensures { result ≡ xor (decrypt_bytes round_keys.now cipher) before }
 {
     xor_block(decrypt_block(round_keys, cipher), before)
-}
-
-fn encrypt_all(round_keys: &[u32; 132], text: &[u8], start: [u8; 16], out: &mut [u8])
-    requires { length text.now ≤ length out.old }
-    ensures { out.new ≡ front (enciphered round_keys.now start text.now) out.old }
-{
-    let mut before = start;
-    for i in 0..text.len() / 16 {
-        let block = block_at(text, i * 16);
-        let cipher = encrypt_link(round_keys, block, before);
-        put_block(cipher, out, i * 16);
-        before = cipher;
-    }
 }
 
 // Puts the text at place i: `deciphered` XOR the cipher block before it. It answers the cipher block at place i, to which
@@ -92,48 +81,91 @@ fn put_sixteen(
     before
 }
 
-// Sixteen blocks at a time, and those that are left one at a time.
-fn decrypt_all(round_keys: &[u32; 132], cipher: &[u8], start: [u8; 16], out: &mut [u8])
-    requires { length cipher.now ≤ length out.old }
-    ensures { out.new ≡ front (deciphered round_keys.now start cipher.now) out.old }
-{
-    let blocks = cipher.len() / 16;
-    let mut before = start;
-    for s in 0..blocks / 16 {
-        let next = put_sixteen(round_keys, cipher, before, s, out);
-        before = next;
+// One way through a chain under any 33 round keys: enciphering, or deciphering.
+trait Way {
+    ghost chained: { List ℕ → List ℕ → List ℕ → List ℕ };
+
+    fn chain(round_keys: &[u32; 132], bytes: &[u8], start: [u8; 16], out: &mut [u8])
+        requires { length bytes.now ≤ length out.old }
+        ensures { out.new ≡ front (chained round_keys.now start bytes.now) out.old };
+}
+
+struct Enciphering;
+
+struct Deciphering;
+
+impl Way for Enciphering {
+    ghost chained = { enciphered };
+
+    fn chain(round_keys: &[u32; 132], text: &[u8], start: [u8; 16], out: &mut [u8]) {
+        let mut before = start;
+        for i in 0..text.len() / 16 {
+            let block = block_at(text, i * 16);
+            let cipher = encrypt_link(round_keys, block, before);
+            put_block(cipher, out, i * 16);
+            before = cipher;
+        }
     }
-    for i in blocks / 16 * 16..blocks {
-        let text = decrypt_block(round_keys, block_at(cipher, i * 16));
-        let next = put_text(text, before, cipher, i, out);
-        before = next;
+}
+
+impl Way for Deciphering {
+    ghost chained = { deciphered };
+
+    // Sixteen blocks at a time, and those that are left one at a time.
+    fn chain(round_keys: &[u32; 132], cipher: &[u8], start: [u8; 16], out: &mut [u8]) {
+        let blocks = cipher.len() / 16;
+        let mut before = start;
+        for s in 0..blocks / 16 {
+            let next = put_sixteen(round_keys, cipher, before, s, out);
+            before = next;
+        }
+        for i in blocks / 16 * 16..blocks {
+            let text = decrypt_block(round_keys, block_at(cipher, i * 16));
+            let next = put_text(text, before, cipher, i, out);
+            before = next;
+        }
     }
 }
 
 // The tests under round keys in their order, on the lengths of text or cipher bytes and output buffer.
-fn blocks_number(bytes: usize, out: usize) -> u32
-    ensures { result ≡ blocks_number bytes out }
+fn check_blocks(bytes: usize, out: usize) -> Result<(), Refusal>
+    ensures { number result ≡ blocks_number bytes out }
 {
     if bytes % 16 != 0 {
-        return TEXT_LENGTH;
+        return Err(Refusal::TextLength);
     }
     if out < bytes {
-        return OUT_SHORT;
+        return Err(Refusal::OutShort);
     }
-    DONE
+    Ok(())
+}
+
+// Whole blocks chained under round keys, where there is room.
+fn under_round_keys<W: Way>(
+    round_keys: &[u32; 132],
+    bytes: &[u8],
+    start: [u8; 16],
+    out: &mut [u8],
+) -> Result<(), Refusal>
+    ensures number { number result ≡ blocks_number (length bytes.now) (length out.old) }
+    ensures written { out.new ≡ left (blocks_number (length bytes.now) (length out.old)) (W.chained round_keys.now start bytes.now) out.old }
+{
+    check_blocks(bytes.len(), out.len())?;
+    W::chain(round_keys, bytes, start, out);
+    Ok(())
 }
 
 // A text enciphered under any 33 round keys, and cipher bytes deciphered, into the first bytes of `out`. The limit is for the callers above.
-pub fn encrypt_blocks(round_keys: &[u32; 132], text: &[u8], start: [u8; 16], out: &mut [u8]) -> u32
-    ensures number { result ≡ blocks_number (length text.now) (length out.old) }
+pub fn encrypt_blocks(
+    round_keys: &[u32; 132],
+    text: &[u8],
+    start: [u8; 16],
+    out: &mut [u8],
+) -> Result<(), Refusal>
+    ensures number { number result ≡ blocks_number (length text.now) (length out.old) }
     ensures written { out.new ≡ left (blocks_number (length text.now) (length out.old)) (enciphered round_keys.now start text.now) out.old }
 {
-    let number = blocks_number(text.len(), out.len());
-    if number != DONE {
-        return number;
-    }
-    encrypt_all(round_keys, text, start, out);
-    number
+    under_round_keys::<Enciphering>(round_keys, text, start, out)
 }
 
 pub fn decrypt_blocks(
@@ -141,64 +173,53 @@ pub fn decrypt_blocks(
     cipher: &[u8],
     start: [u8; 16],
     out: &mut [u8],
-) -> u32
-    ensures number { result ≡ blocks_number (length cipher.now) (length out.old) }
+) -> Result<(), Refusal>
+    ensures number { number result ≡ blocks_number (length cipher.now) (length out.old) }
     ensures written { out.new ≡ left (blocks_number (length cipher.now) (length out.old)) (deciphered round_keys.now start cipher.now) out.old }
 {
-    let number = blocks_number(cipher.len(), out.len());
-    if number != DONE {
-        return number;
-    }
-    decrypt_all(round_keys, cipher, start, out);
-    number
+    under_round_keys::<Deciphering>(round_keys, cipher, start, out)
 }
 
-// The tests in their order, on the lengths of key, text, start block and output buffer.
-#[tactic(auto, using(crate::proofs::Numbers::uneven))]
-fn chain_number(key: usize, text: usize, start: usize, out: usize) -> u32
-    ensures { result ≡ chain_number key text start out }
+// The start block of a chain, after the tests of the text's length and of its own; the limit is tested behind them.
+#[tactic(auto, using(crate::proofs::Numbers::uneven, crate::proofs::Numbers::other_start, crate::proofs::Numbers::past_limit, crate::proofs::Numbers::within_limit))]
+fn start_block(text: usize, start: &[u8]) -> Result<[u8; 16], Refusal>
+    ensures number { number result ≡ lengths_number text (length start.now) }
+    ensures block { IfOk result (λ block. block ≡ start.now) }
 {
-    let number = Serpent::key_number(key);
-    if number != DONE {
-        return number;
-    }
     if text % 16 != 0 {
-        return TEXT_LENGTH;
+        return Err(Refusal::TextLength);
     }
-    if start != 16 {
-        return START_LENGTH;
-    }
+    let Ok(block) = start.try_into() else {
+        return Err(Refusal::StartLength);
+    };
     if text / 16 > MAX_BLOCKS {
-        return TOO_MANY;
+        return Err(Refusal::TooMany);
     }
-    if out < text {
-        return OUT_SHORT;
-    }
-    DONE
+    Ok(block)
+}
+
+// The tests in their order, and then the chain under the key's round keys.
+fn under_key<W: Way>(key: &[u8], bytes: &[u8], start: &[u8], out: &mut [u8]) -> Result<(), Refusal>
+    ensures number { number result ≡ chain_number (length key.now) (length bytes.now) (length start.now) (length out.old) }
+    ensures written { out.new ≡ left (chain_number (length key.now) (length bytes.now) (length start.now) (length out.old)) (W.chained (schedule key.now) start.now bytes.now) out.old }
+{
+    let cipher = Serpent::new_from_slice(key)?;
+    let start = start_block(bytes.len(), start)?;
+    under_round_keys::<W>(&cipher.round_keys, bytes, start, out)
 }
 
 // A text enciphered under a key, into the first bytes of `out`.
-pub fn encrypt_chain(key: &[u8], text: &[u8], start: &[u8], out: &mut [u8]) -> u32
-    ensures number { result ≡ chain_number (length key.now) (length text.now) (length start.now) (length out.old) }
+pub fn encrypt_chain(key: &[u8], text: &[u8], start: &[u8], out: &mut [u8]) -> Result<(), Refusal>
+    ensures number { number result ≡ chain_number (length key.now) (length text.now) (length start.now) (length out.old) }
     ensures written { out.new ≡ encrypted_chain key.now text.now start.now out.old }
 {
-    let number = chain_number(key.len(), text.len(), start.len(), out.len());
-    if number != DONE {
-        return number;
-    }
-    let keyed = Serpent::new_from_slice(key);
-    encrypt_blocks(&keyed.cipher.round_keys, text, block_at(start, 0), out)
+    under_key::<Enciphering>(key, text, start, out)
 }
 
 // Cipher bytes deciphered under a key, into the first bytes of `out`.
-pub fn decrypt_chain(key: &[u8], cipher: &[u8], start: &[u8], out: &mut [u8]) -> u32
-    ensures number { result ≡ chain_number (length key.now) (length cipher.now) (length start.now) (length out.old) }
+pub fn decrypt_chain(key: &[u8], cipher: &[u8], start: &[u8], out: &mut [u8]) -> Result<(), Refusal>
+    ensures number { number result ≡ chain_number (length key.now) (length cipher.now) (length start.now) (length out.old) }
     ensures written { out.new ≡ decrypted_chain key.now cipher.now start.now out.old }
 {
-    let number = chain_number(key.len(), cipher.len(), start.len(), out.len());
-    if number != DONE {
-        return number;
-    }
-    let keyed = Serpent::new_from_slice(key);
-    decrypt_blocks(&keyed.cipher.round_keys, cipher, block_at(start, 0), out)
+    under_key::<Deciphering>(key, cipher, start, out)
 }

@@ -1,150 +1,191 @@
-// The operations that a line can name. A new one is a row in `operation_of`, and an arm with the row's number in `call`
-// or in `call_cipher`.
-use crate::fields::row_of;
-use crate::values::{put_event, put_words};
-use answers::{DONE, OUT_SHORT, TEXT_LENGTH, put_answer};
-use check_text::lines::{after, part};
-use event::read_event;
+// The operations that a line can name. A new one is a variant, a row in `OPERATIONS`, and an arm in `Call::make`.
+use crate::values::{event_numbers, put_numbers};
+use Field::*;
+use Operation::*;
+use answers::{Refusal, put_answer};
+use event::{Event, read_event};
 use frame::parts::frame_start;
 use frame::window::read_window;
-use frame::{frame_blocks, frame_number, open_frame};
-use search::search;
+use frame::{check_frame, frame_blocks, open_frame};
+use search::{Found, search};
 use slices::parts;
-use words::blocks::{block_at, put_block};
 
-// What a call of two ways answers where the way back does not lead to what it began with.
-const NOT_BACK: u32 = 98;
+#[derive(Clone, Copy, Debug, PartialEq, Eq)]
+pub enum Operation {
+    EncryptBlock,
+    DecryptBlock,
+    ExpandKey,
+    NewFromSlice,
+    ApplyS,
+    ApplySInv,
+    LinearTransform,
+    LinearTransformInv,
+    Ecb,
+    EncryptChain,
+    DecryptChain,
+    EncryptBlocks,
+    DecryptBlocks,
+    FrameStart,
+    ReadWindow,
+    OpenFrame,
+    ReadEvent,
+    Search,
+}
 
-// What opening answers where two operations do not agree on the number.
-const TWO_NUMBERS: u32 = 99;
+// A field that not every operation takes.
+#[derive(Clone, Copy, Debug, PartialEq, Eq)]
+pub enum Field {
+    Key,
+    Bytes,
+    Start,
+    Place,
+    Count,
+    Room,
+}
+
+// A row for each operation: the name that a line has for it, the fields that it takes, and what it is.
+static OPERATIONS: [(&str, &[Field], Operation); 18] = [
+    ("encrypt_block", &[Key, Bytes, Room], EncryptBlock),
+    ("decrypt_block", &[Key, Bytes, Room], DecryptBlock),
+    ("expand_key", &[Key, Room], ExpandKey),
+    ("new_from_slice", &[Key, Room], NewFromSlice),
+    ("apply_s", &[Bytes, Place, Room], ApplyS),
+    ("apply_s_inv", &[Bytes, Place, Room], ApplySInv),
+    ("linear_transform", &[Bytes, Room], LinearTransform),
+    ("linear_transform_inv", &[Bytes, Room], LinearTransformInv),
+    ("ecb", &[Key, Bytes], Ecb),
+    ("encrypt_chain", &[Key, Bytes, Start, Room], EncryptChain),
+    ("decrypt_chain", &[Key, Bytes, Start, Room], DecryptChain),
+    ("encrypt_blocks", &[Bytes, Start, Room], EncryptBlocks),
+    ("decrypt_blocks", &[Bytes, Start, Room], DecryptBlocks),
+    ("frame_start", &[Bytes, Room], FrameStart),
+    ("read_window", &[Key, Bytes, Place, Count, Room], ReadWindow),
+    ("open_frame", &[Bytes], OpenFrame),
+    ("read_event", &[Bytes], ReadEvent),
+    ("search", &[Key, Bytes, Place], Search),
+];
+
+// The operation of a name, and the fields that it takes.
+pub fn operation_of(name: &str) -> Option<(Operation, &'static [Field])> {
+    let (_, takes, operation) = OPERATIONS.iter().find(|row| row.0 == name)?;
+    Some((*operation, *takes))
+}
+
+// Why a call does not do its work.
+#[derive(Clone, Copy, Debug, PartialEq, Eq)]
+pub enum Failure {
+    // the operation refuses
+    Refused(Refusal),
+    // the way back does not lead to what it began with
+    NotBack,
+    // two operations do not agree on what they answer
+    TwoAnswers,
+}
+
+impl From<Refusal> for Failure {
+    fn from(refusal: Refusal) -> Failure {
+        Failure::Refused(refusal)
+    }
+}
+
+// A call. What its operation does not take is empty, or 0.
+#[derive(Drop)]
+pub struct Call {
+    pub operation: Operation,
+    pub key: Vec<u8>,
+    pub bytes: Vec<u8>,
+    pub start: Vec<u8>,
+    pub place: usize,
+    pub count: usize,
+}
+
+impl Call {
+    // Makes the call.
+    pub fn make(&self, out: &mut [u8]) -> Result<(), Failure> {
+        let answer = match self.operation {
+            EncryptBlock => slices::encrypt_block(&self.key, &self.bytes, out),
+            DecryptBlock => slices::decrypt_block(&self.key, &self.bytes, out),
+            ExpandKey => parts::expand_key(&self.key, out),
+            NewFromSlice => parts::new_from_slice(&self.key, out),
+            ApplyS => parts::apply_s(self.place, &self.bytes, out),
+            ApplySInv => parts::apply_s_inv(self.place, &self.bytes, out),
+            LinearTransform => parts::linear_transform(&self.bytes, out),
+            LinearTransformInv => parts::linear_transform_inv(&self.bytes, out),
+            Ecb => return ecb(&self.key, &self.bytes, out),
+            EncryptChain => chain::encrypt_chain(&self.key, &self.bytes, &self.start, out),
+            DecryptChain => chain::decrypt_chain(&self.key, &self.bytes, &self.start, out),
+            EncryptBlocks => chain::encrypt_blocks(&ZEROS, &self.bytes, block_of(&self.start), out),
+            DecryptBlocks => chain::decrypt_blocks(&ZEROS, &self.bytes, block_of(&self.start), out),
+            FrameStart => frame_start(&self.bytes, out),
+            ReadWindow => read_window(&self.key, &self.bytes, self.place, self.count, out),
+            OpenFrame => return opening(&self.bytes, out),
+            ReadEvent => reading(&self.bytes, out),
+            Search => searching(&self.key, &self.bytes, self.place, out),
+        };
+        Ok(answer?)
+    }
+}
 
 // The round keys of encrypt_blocks and decrypt_blocks.
 const ZEROS: [u32; 132] = [0; 132];
 
-// The row of a line's operation, counted from 0; NONE where the line is malformed. A row is a name and the kinds of the
-// eight fields behind it: `n` is a number, `b` bytes, and `-` a field that the operation does not have.
-pub fn operation_of(line: &[u8]) -> usize {
-    let fields = after(line, 0, b' ');
-    row_of(
-        b"encrypt_block nbb---nb
-decrypt_block nbb---nb
-expand_key nb----nb
-new_from_slice nb----nb
-apply_s n-b-n-nb
-apply_s_inv n-b-n-nb
-linear_transform n-b---nb
-linear_transform_inv n-b---nb
-ecb nbb----b
-encrypt_chain nbbb--nb
-decrypt_chain nbbb--nb
-encrypt_blocks n-bb--nb
-decrypt_blocks n-bb--nb
-frame_start n-b---nb
-read_window nbb-nnnb
-open_frame n-b----b
-read_event n-b----b
-search nbb-n--b
-",
-        part(line, 0, b' '),
-        &line[fields..],
-    )
-}
-
-// A block enciphered into `out`, and deciphered again.
-fn both_ways(key: &[u8], block: [u8; 16], out: &mut [u8], at: usize) -> u32 {
-    let mut cipher = [0u8; 16];
-    let mut back = [0u8; 16];
-    let number = slices::encrypt_block(key, &block, &mut cipher);
-    if number != DONE {
-        return number;
-    }
-    let again = slices::decrypt_block(key, &cipher, &mut back);
-    put_block(cipher, out, at);
-    if back == block {
-        return again;
-    }
-    NOT_BACK
+// The first sixteen bytes, or zeros where there are fewer.
+fn block_of(bytes: &[u8]) -> [u8; 16] {
+    *bytes.first_chunk().unwrap_or(&[0; 16])
 }
 
 // Each block of a text by itself, both ways.
-fn ecb(key: &[u8], text: &[u8], out: &mut [u8]) -> u32 {
-    for i in 0..text.len() / 16 {
-        let number = both_ways(key, block_at(text, i * 16), out, i * 16);
-        if number != DONE {
-            return number;
+fn ecb(key: &[u8], text: &[u8], out: &mut [u8]) -> Result<(), Failure> {
+    let mut back = [0u8; 16];
+    for (block, cipher) in text.chunks_exact(16).zip(out.chunks_exact_mut(16)) {
+        slices::encrypt_block(key, block, cipher)?;
+        slices::decrypt_block(key, cipher, &mut back)?;
+        if back.as_slice() != block {
+            return Err(Failure::NotBack);
         }
     }
     if text.len() % 16 != 0 {
-        return TEXT_LENGTH;
+        return Err(Failure::Refused(Refusal::TextLength));
     }
-    DONE
+    Ok(())
 }
 
-// The start block and behind it the cipher blocks that opening gives.
-fn opening(frame: &[u8], out: &mut [u8]) -> u32 {
+// The start block and behind it the cipher blocks that opening gives: zeros and none of a frame that it refuses.
+fn opening(frame: &[u8], out: &mut [u8]) -> Result<(), Failure> {
     let opened = open_frame(frame);
-    let start = opened.start;
-    if out.len() < 16 {
-        return OUT_SHORT;
+    let Some((start, blocks)) = out.split_first_chunk_mut::<16>() else {
+        return Err(Failure::Refused(Refusal::OutShort));
+    };
+    start.copy_from_slice(&opened.map_or([0; 16], |opened| opened.start()));
+    put_answer(frame_blocks(frame), blocks)?;
+    let answer = opened.map(|_| ());
+    if answer != check_frame(frame) {
+        return Err(Failure::TwoAnswers);
     }
-    put_block(start, out, 0);
-    put_answer(frame_blocks(frame), &mut out[16..]);
-    if opened.number == frame_number(frame) {
-        return opened.number;
-    }
-    TWO_NUMBERS
+    Ok(answer?)
 }
 
-// An event's fields.
-fn reading(bytes: &[u8], out: &mut [u8]) -> u32 {
-    let read = read_event(bytes);
-    put_event(read.event, out, 0);
-    read.number
+// An event's fields: zeros of one that is refused.
+fn reading(bytes: &[u8], out: &mut [u8]) -> Result<(), Refusal> {
+    let answer = read_event(bytes);
+    put_numbers(&event_numbers(&answer.unwrap_or_default()), out, 0);
+    answer.map(|_| ())
 }
 
-// The place, the tries, and the fields of the event.
-fn searching(key: &[u8], frame: &[u8], place: usize, out: &mut [u8]) -> u32 {
-    let found = search(key, frame, place);
-    put_words(&[found.place as u64, found.tries as u64], out, 0);
-    put_event(found.event, out, 16);
-    found.number
-}
-
-// Makes a call of the cipher.
-fn call_cipher(operation: usize, key: &[u8], bytes: &[u8], place: usize, out: &mut [u8]) -> u32 {
-    match operation {
-        0 => slices::encrypt_block(key, bytes, out),
-        1 => slices::decrypt_block(key, bytes, out),
-        2 => parts::expand_key(key, out),
-        3 => parts::new_from_slice(key, out),
-        4 => parts::apply_s(place, bytes, out),
-        5 => parts::apply_s_inv(place, bytes, out),
-        6 => parts::linear_transform(bytes, out),
-        7 => parts::linear_transform_inv(bytes, out),
-        _ => ecb(key, bytes, out),
-    }
-}
-
-// Makes a call, and answers its number.
-pub fn call(
-    operation: usize,
-    key: &[u8],
-    bytes: &[u8],
-    start: &[u8],
-    place: usize,
-    count: usize,
-    out: &mut [u8],
-) -> u32 {
-    match operation {
-        9 => chain::encrypt_chain(key, bytes, start, out),
-        10 => chain::decrypt_chain(key, bytes, start, out),
-        11 => chain::encrypt_blocks(&ZEROS, bytes, block_at(start, 0), out),
-        12 => chain::decrypt_blocks(&ZEROS, bytes, block_at(start, 0), out),
-        13 => frame_start(bytes, out),
-        14 => read_window(key, bytes, place, count, out),
-        15 => opening(bytes, out),
-        16 => reading(bytes, out),
-        17 => searching(key, bytes, place, out),
-        _ => call_cipher(operation, key, bytes, place, out),
-    }
+// The place, the tries, and the fields of the event: zeros, but for the tries, where there is none.
+fn searching(key: &[u8], frame: &[u8], place: usize, out: &mut [u8]) -> Result<(), Refusal> {
+    let (found, answer) = match search(key, frame, place) {
+        Ok(found) => (found, Ok(())),
+        Err(missed) => (
+            Found {
+                place: 0,
+                tries: missed.tries(),
+                event: Event::default(),
+            },
+            Err(missed.refusal()),
+        ),
+    };
+    put_numbers(&[found.place as u64, found.tries as u64], out, 0);
+    put_numbers(&event_numbers(&found.event), out, 2);
+    answer
 }

@@ -1,17 +1,91 @@
-// A line of data: the call that it says, and whether the answer is the one that it says.
-ghost use Rattle.std.specs.Prelude.{◌≡◌, true};
+// A line of data: OPERATION NUMBER KEY BYTES START PLACE COUNT ROOM ANSWER, one space apart. `-` stands for a field that
+// the operation does not take, and for no bytes. It says a call, and the number and the bytes that are due from it.
+ghost use Rattle.std.specs.Prelude.{◌≡◌, ◌≤◌, true};
+ghost use Rattle.check_data.specs.declared.fields.TheConstants.{MOST};
 ghost use Rattle.check_text.specs.Pattern.{Answer};
 
-use crate::calls::{call, operation_of};
-use crate::fields::{MOST, NONE, bytes_of, field, number_of};
-use check_text::lines::after;
+use crate::calls::{Call, Failure, Field, operation_of};
+use crate::fields::{LineError, MOST, bytes_of, number_of};
 use check_text::pattern::{FILL, is_answer};
+use std::alloc::Global;
+use std::io::ErrorKind;
+use std::{fmt, io, str};
 
-#[derive(Drop)]
+#[derive(Clone, Copy, Debug, PartialEq, Eq)]
 pub enum Verdict {
     Right,
     Wrong,
     Malformed,
+}
+
+impl fmt::Display for Verdict {
+    fn fmt<W: fmt::Write>(&self, f: &mut fmt::Formatter<W>) -> fmt::Result {
+        f.write_str(match self {
+            Verdict::Right => "right",
+            Verdict::Wrong => "wrong",
+            Verdict::Malformed => "malformed",
+        })
+    }
+}
+
+// What a line says. The call is lent so much room.
+#[derive(Drop)]
+struct Line {
+    call: Call,
+    room: usize,
+    number: u64,
+    answer: Vec<u8>,
+    ghost in_range: { room ≤ MOST },
+}
+
+// The bytes of a field, if the operation takes it.
+fn bytes_if(alloc: Global, is_taken: bool, field: &str) -> Result<Vec<u8>, LineError> {
+    if field == "-" {
+        return Ok(Vec::new(alloc));
+    }
+    if !is_taken {
+        return Err(LineError::Malformed);
+    }
+    bytes_of(alloc, field)
+}
+
+// The number of a field, if the operation takes it.
+fn number_if(is_taken: bool, field: &str) -> Result<Option<usize>, LineError> {
+    if is_taken {
+        return Ok(Some(number_of(field)? as usize));
+    }
+    if field != "-" {
+        return Err(LineError::Malformed);
+    }
+    Ok(None)
+}
+
+// The line that a text says.
+fn line_of(alloc: Global, text: &[u8]) -> Result<Line, LineError> {
+    let fields: Vec<&str> = str::from_utf8(text)?.split(' ').collect(alloc)?;
+    let [name, number, key, bytes, start, place, count, room, answer] = fields.as_slice() else {
+        return Err(LineError::Malformed);
+    };
+    let (operation, taken) = operation_of(name).ok_or(LineError::Malformed)?;
+    let takes = |field: Field| taken.contains(&field);
+    let room = number_if(takes(Field::Room), room)?.unwrap_or(MOST);
+    if room > MOST {
+        return Err(LineError::Malformed);
+    }
+    let call = Call {
+        operation,
+        key: bytes_if(alloc, takes(Field::Key), key)?,
+        bytes: bytes_if(alloc, takes(Field::Bytes), bytes)?,
+        start: bytes_if(alloc, takes(Field::Start), start)?,
+        place: number_if(takes(Field::Place), place)?.unwrap_or(0),
+        count: number_if(takes(Field::Count), count)?.unwrap_or(0),
+    };
+    Ok(Line {
+        call,
+        room,
+        number: number_of(number)?,
+        answer: bytes_if(alloc, true, answer)?,
+    })
 }
 
 // Whether a call has answered the wanted number, and left the wanted bytes and the fill behind them.
@@ -20,71 +94,30 @@ fn is_right(number: u32, wanted: u64, out: &[u8], answer: &[u8]) -> bool
     ensures answer { result ≡ true → Answer out.now answer.now }
     ensures both { number ≡ wanted → Answer out.now answer.now → result ≡ true }
 {
-    if number as u64 != wanted {
-        return false;
-    }
-    is_answer(out, answer)
+    u64::from(number) == wanted && is_answer(out, answer)
 }
 
-// The call is lent the room that the line says, or all of `out`, which is filled before.
-fn judged(
-    operation: usize,
-    key: &[u8],
-    bytes: &[u8],
-    start: &[u8],
-    fields: &[u8],
-    answer: &[u8],
-    out: &mut [u8],
-) -> Verdict {
-    let lent = number_of(field(fields, 6));
-    let place = number_of(field(fields, 4)).value as usize;
-    let count = number_of(field(fields, 5)).value as usize;
-    let wanted = number_of(field(fields, 0)).value;
-    let mut room = out.len();
-    if lent.is {
-        room = lent.value as usize;
+impl Line {
+    // Makes the call, in room that is filled before.
+    fn verdict(&self) -> Verdict {
+        let mut out = [FILL; MOST];
+        let answer = match self.call.make(&mut out[..self.room]) {
+            Ok(()) => Ok(()),
+            Err(Failure::Refused(refusal)) => Err(refusal),
+            Err(Failure::NotBack | Failure::TwoAnswers) => return Verdict::Wrong,
+        };
+        if is_right(answers::number_of(&answer), self.number, &out, &self.answer) {
+            return Verdict::Right;
+        }
+        Verdict::Wrong
     }
-    if room > out.len() {
-        return Verdict::Malformed;
-    }
-    let number = call(
-        operation,
-        key,
-        bytes,
-        start,
-        place,
-        count,
-        &mut out[0..room],
-    );
-    if is_right(number, wanted, out, answer) {
-        return Verdict::Right;
-    }
-    Verdict::Wrong
 }
 
-pub fn check_line(line: &[u8]) -> Verdict {
-    let mut key = [0u8; MOST];
-    let mut bytes = [0u8; MOST];
-    let mut start = [0u8; MOST];
-    let mut answer = [0u8; MOST];
-    let mut out = [FILL; MOST];
-    let operation = operation_of(line);
-    if operation == NONE {
-        return Verdict::Malformed;
+// Makes the call of a line, and compares.
+pub fn check_line(alloc: Global, line: &[u8]) -> io::Result<Verdict> {
+    match line_of(alloc, line) {
+        Ok(line) => Ok(line.verdict()),
+        Err(LineError::Malformed) => Ok(Verdict::Malformed),
+        Err(LineError::OutOfMemory) => Err(ErrorKind::OutOfMemory.into()),
     }
-    let from = after(line, 0, b' ');
-    let fields = &line[from..];
-    let k = bytes_of(field(fields, 1), &mut key);
-    let b = bytes_of(field(fields, 2), &mut bytes);
-    let s = bytes_of(field(fields, 3), &mut start);
-    let a = bytes_of(field(fields, 7), &mut answer);
-    judged(
-        operation,
-        &key[..k],
-        &bytes[..b],
-        &start[..s],
-        fields,
-        &answer[..a],
-        &mut out,
-    )
 }

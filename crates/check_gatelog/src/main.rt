@@ -1,65 +1,72 @@
 // The command on many files, with both its outputs on standard output: listings, sentences and statuses.
 #![tactic(auto)]
 
+use gatelog::Status;
 use std::io;
 use std::io::Write;
 
-fn end<W: Write>(out: &mut W, status: u32) -> io::Result<()> {
-    writeln!(out, "status {status}")
+const LISTED: [(&str, &str); 4] = [
+    ("key.txt", "spots.frame"),
+    ("spaced.txt", "none.frame"),
+    ("key.txt", "-"),
+    ("spaced.txt", "full.frame"),
+];
+
+const REFUSED_KEYS: [&str; 10] = [
+    "nosuch.txt",
+    ".",
+    "",
+    "bad.txt",
+    "odd.txt",
+    "empty.txt",
+    "fifteen.txt",
+    "thirty_three.txt",
+    "blanks.txt",
+    "-",
+];
+
+const REFUSED_FRAMES: [&str; 10] = [
+    "nosuch.frame",
+    "key.txt/spots.frame",
+    ".",
+    "",
+    "empty.frame",
+    "short.frame",
+    "cut.frame",
+    "version.frame",
+    "ragged.frame",
+    "many.frame",
+];
+
+fn end<W: Write>(out: &mut W, status: Status) -> io::Result<()> {
+    let number = u8::from(status);
+    writeln!(out, "status {number}")
 }
 
 // The command's own two writers are two handles of the same stream.
-fn list(rt: &HostRuntime, key: &[u8], frame: &[u8]) -> io::Result<()> {
+fn list(rt: &HostRuntime, key: &str, frame: &str) -> io::Result<()> {
     let mut out = rt.stdout();
-    out.write_all(b"$ gatelog ")?;
-    out.write_all(key)?;
-    out.write_all(b" ")?;
-    out.write_all(frame)?;
-    out.write_all(b"\n")?;
-    let status = gatelog::run(rt, &mut out, &mut rt.stdout(), key, frame);
+    writeln!(out, "$ gatelog {key} {frame}")?;
+    let status = gatelog::run(
+        rt,
+        &mut out,
+        &mut rt.stdout(),
+        key.as_bytes(),
+        frame.as_bytes(),
+    );
     end(&mut out, status)
 }
 
-fn listed(rt: &HostRuntime) -> io::Result<()> {
-    list(rt, b"key.txt", b"spots.frame")?;
-    list(rt, b"spaced.txt", b"none.frame")?;
-    list(rt, b"key.txt", b"-")?;
-    list(rt, b"spaced.txt", b"full.frame")?;
-    Ok(())
-}
-
-fn refused_keys(rt: &HostRuntime) -> io::Result<()> {
-    list(rt, b"nosuch.txt", b"spots.frame")?;
-    list(rt, b".", b"spots.frame")?;
-    list(rt, b"", b"spots.frame")?;
-    list(rt, b"bad.txt", b"spots.frame")?;
-    list(rt, b"odd.txt", b"spots.frame")?;
-    list(rt, b"empty.txt", b"spots.frame")?;
-    list(rt, b"fifteen.txt", b"spots.frame")?;
-    list(rt, b"thirty_three.txt", b"spots.frame")?;
-    list(rt, b"blanks.txt", b"spots.frame")?;
-    list(rt, b"-", b"spots.frame")?;
-    Ok(())
-}
-
-fn refused_frames(rt: &HostRuntime) -> io::Result<()> {
-    list(rt, b"key.txt", b"nosuch.frame")?;
-    list(rt, b"key.txt", b"key.txt/spots.frame")?;
-    list(rt, b"key.txt", b".")?;
-    list(rt, b"key.txt", b"")?;
-    list(rt, b"key.txt", b"empty.frame")?;
-    list(rt, b"key.txt", b"short.frame")?;
-    list(rt, b"key.txt", b"cut.frame")?;
-    list(rt, b"key.txt", b"version.frame")?;
-    list(rt, b"key.txt", b"ragged.frame")?;
-    list(rt, b"key.txt", b"many.frame")?;
-    Ok(())
-}
-
 fn main(rt: HostRuntime) -> io::Result<()> {
-    listed(&rt)?;
-    refused_keys(&rt)?;
-    refused_frames(&rt)?;
+    for (key, frame) in LISTED {
+        list(&rt, key, frame)?;
+    }
+    for key in REFUSED_KEYS {
+        list(&rt, key, "spots.frame")?;
+    }
+    for frame in REFUSED_FRAMES {
+        list(&rt, "key.txt", frame)?;
+    }
     let mut out = rt.stdout();
     let status = gatelog::misused(&mut out);
     end(&mut out, status)?;

@@ -2,32 +2,31 @@
 ghost use Rattle.std.specs.Prelude.{◌≤◌};
 
 use check_text::pattern::{FILL, is_kept};
-use check_text::say;
 use listing::{put_closing, put_head, put_lines};
 use std::io;
 use std::io::Write;
 
-// The answer of a call, and whether the bytes past it are as they were.
-fn end<W: Write>(to: &mut W, answer: usize, out: &[u8; 512]) -> io::Result<()> {
-    say::fill(
-        to,
-        b": answers #, all bytes from there on ",
-        &[answer as u64],
-    )?;
-    if is_kept(out, answer) {
-        say::text(to, b"kept\n")
-    } else {
-        say::text(to, b"CHANGED\n")
-    }
-}
-
-fn head<W: Write>(to: &mut W, room: usize) -> io::Result<()>
-    requires { room ≤ 512 }
+// Lends a call the first bytes of a filled buffer, and says what it answers and whether the bytes past that are as they
+// were.
+fn lend<W: Write, F: FnOnce(&mut [u8]) -> Option<usize>>(
+    to: &mut W,
+    room: usize,
+    call: F,
+) -> io::Result<()>
+    requires room { room ≤ 512 }
+    requires call { F.IsAlwaysCallable call }
 {
     let mut out = [FILL; 512];
-    let answer = put_head(&mut out[0..room]);
-    say::fill(to, b"put_head, # bytes of room", &[room as u64])?;
-    end(to, answer, &out)
+    let answer = call(&mut out[..room]).unwrap_or(0);
+    let state = if is_kept(&out, answer) {
+        "kept"
+    } else {
+        "CHANGED"
+    };
+    writeln!(
+        to,
+        ", {room} bytes of room: answers {answer}, all bytes from there on {state}"
+    )
 }
 
 // The texts are zeros: readable, and of one second.
@@ -35,53 +34,41 @@ fn lines<W: Write>(to: &mut W, size: usize, from: usize, upto: usize, room: usiz
     requires { (size ≤ 64) × (room ≤ 512) }
 {
     let texts = [0u8; 64];
-    let mut out = [FILL; 512];
-    let answer = put_lines(&texts[0..size], from, upto, &mut out[0..room]);
-    say::fill(
+    write!(
         to,
-        b"put_lines, # bytes of texts, places # up to #, # bytes of room",
-        &[size as u64, from as u64, upto as u64, room as u64],
+        "put_lines, {size} bytes of texts, places {from} up to {upto}"
     )?;
-    end(to, answer, &out)
+    lend(to, room, |out| put_lines(&texts[..size], from, upto, out))
 }
 
-// The texts are blocks that are not readable, so that there is a sentence.
-fn closing<W: Write>(to: &mut W, size: usize, room: usize) -> io::Result<()>
-    requires { (size ≤ 64) × (room ≤ 512) }
-{
-    let texts = [255u8; 64];
-    let mut out = [FILL; 512];
-    let answer = put_closing(&texts[0..size], &mut out[0..room]);
-    say::fill(
-        to,
-        b"put_closing, # bytes of texts, # bytes of room",
-        &[size as u64, room as u64],
-    )?;
-    end(to, answer, &out)
+// Room that just fits, texts and places that are not there, no place, and places far beyond.
+fn all_lines<W: Write>(to: &mut W) -> io::Result<()> {
+    for (from, room) in [(0, 383), (0, 384), (1, 255), (1, 256)] {
+        lines(to, 48, from, 3, room)?;
+    }
+    for (size, from, upto) in [(47, 0, 3), (63, 0, 3), (48, 0, 4), (48, 2, 1)] {
+        lines(to, size, from, upto, 512)?;
+    }
+    for (size, place, room) in [(48, 3, 0), (48, 4, 512), (0, 0, 0)] {
+        lines(to, size, place, place, room)?;
+    }
+    for (from, upto) in [(0, 1 << 57), (usize::MAX, 0), (usize::MAX, usize::MAX)] {
+        lines(to, 48, from, upto, 512)?;
+    }
+    Ok(())
 }
 
+// The closing sentence is of blocks that are not readable, so that there is one.
 pub fn all<W: Write>(to: &mut W) -> io::Result<()> {
-    head(to, 0)?;
-    head(to, 127)?;
-    head(to, 128)?;
-    head(to, 129)?;
-    lines(to, 48, 0, 3, 383)?;
-    lines(to, 48, 0, 3, 384)?;
-    lines(to, 48, 1, 3, 255)?;
-    lines(to, 48, 1, 3, 256)?;
-    lines(to, 47, 0, 3, 512)?;
-    lines(to, 63, 0, 3, 512)?;
-    lines(to, 48, 0, 4, 512)?;
-    lines(to, 48, 2, 1, 512)?;
-    lines(to, 48, 3, 3, 0)?;
-    lines(to, 48, 4, 4, 512)?;
-    lines(to, 0, 0, 0, 0)?;
-    lines(to, 48, 0, 0x200_0000_0000_0000, 512)?;
-    lines(to, 48, 0xffff_ffff_ffff_ffff, 0, 512)?;
-    lines(to, 48, 0xffff_ffff_ffff_ffff, 0xffff_ffff_ffff_ffff, 512)?;
-    closing(to, 32, 255)?;
-    closing(to, 32, 256)?;
-    closing(to, 64, 512)?;
-    closing(to, 15, 512)?;
-    closing(to, 0, 256)
+    for room in [0, 127, 128, 129] {
+        write!(to, "put_head")?;
+        lend(to, room, put_head)?;
+    }
+    all_lines(to)?;
+    let texts = [255u8; 64];
+    for (size, room) in [(32, 255), (32, 256), (64, 512), (15, 512), (0, 256)] {
+        write!(to, "put_closing, {size} bytes of texts")?;
+        lend(to, room, |out| put_closing(&texts[..size], out))?;
+    }
+    Ok(())
 }

@@ -1,8 +1,6 @@
-// What the test programs share: hexadecimal digits, lines, events as bytes, filled buffers, and what they write.
+// What the test programs share: the lines of a file, events as bytes, and filled buffers.
 #![tactic(auto)]
 
 pub mod events;
-pub mod hex;
 pub mod lines;
 pub mod pattern;
-pub mod say;

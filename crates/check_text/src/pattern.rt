@@ -10,21 +10,12 @@ pub fn is_kept(out: &[u8], from: usize) -> bool
     ensures kept { result ≡ true → (k : ℕ) → from ≤ k → k < length out.now → get_or out.now k 0 ≡ 165 }
     ensures all { ((k : ℕ) → from ≤ k → k < length out.now → get_or out.now k 0 ≡ 165) → result ≡ true }
 {
-    for i in from..out.len() {
-        if out[i] != FILL {
-            return false;
-        }
-    }
-    true
+    out.iter().skip(from).all(|byte| *byte == FILL)
 }
 
 // Whether the first bytes are the wanted ones, and all that follow the fill.
 pub fn is_answer(out: &[u8], wanted: &[u8]) -> bool
     ensures { (result ≡ true → Answer out.now wanted.now) × (Answer out.now wanted.now → result ≡ true) }
 {
-    let n = wanted.len();
-    if n > out.len() {
-        return false;
-    }
-    &out[0..n] == wanted && is_kept(out, n)
+    out.starts_with(wanted) && is_kept(out, wanted.len())
 }

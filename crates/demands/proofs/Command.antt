@@ -23,7 +23,7 @@ pub one_text : OneText
 one_text = record {
   date_of = λ κs a x y s t p q. once p q;
   read_key = λ κs a x y s t p q. once p.0 q.0;
-  read_key_out = λ κs a x y s t p q. once p.1 q.1;
+  read_key_out = λ κs a x y s t p q. once p.1.0 q.1.0;
   put_head = λ κs a x y s t p q. once p.0 q.0;
   put_head_out = λ κs a x y s t p q. once p.1 q.1;
   put_lines = λ κs a x y s t p q. once p.0 q.0;

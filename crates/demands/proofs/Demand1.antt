@@ -1,6 +1,6 @@
 -- Demand 1: every input has its one answer.
 -- Assumes nothing.
-use mathlib.Core.Path.{◌≡◌, sym, ap, ◌∙◌}
+use mathlib.Core.Path.{◌≡◌, refl, sym, ap, ◌∙◌}
 use mathlib.Core.Bool.{true, false}
 use mathlib.Core.List.{List, [], ◌∷◌, ◌++◌}
 use mathlib.Core.Logic.{◌⊎◌, ⊎_elim}
@@ -9,11 +9,16 @@ use native.Mathlib.Decide.{dec_lt}
 use native.Mathlib.Omega.{arith}
 use lib.ListN.{length, drop, get_or, replicate, length-append, length-replicate}
 use lib.Seq.{length-take-le}
+use Rattle.std.specs.Prelude.{Result, Ok, Err, IfOk}
+use Rattle.answers.specs.Numbers.{number}
+use Rattle.answers.specs.declared.Refusal.{Refusal}
+use Rattle.answers.proofs.Numbers.{same_answer, same_done}
 use Rattle.answers.proofs.Answers.{done, refused, left_refused, left_past, short, roomy}
 use Rattle.words.specs.Bytes.{bytes_of}
 use Rattle.words.proofs.Lists.{length-list_of}
 use Rattle.bitslice.proofs.Arms.{always}
 use Rattle.serpent.specs.Keys.{least_key, greatest_key, key_number, keyed}
+use Rattle.serpent.specs.declared.Serpent.{Serpent}
 use Rattle.serpent.specs.Schedule.{padded}
 use Rattle.slices.specs.Parts.{setup_number, padded_out, round_keys_out, words_number, linear_out, linear_inv_out, boxed_number, boxed_out, boxed_inv_out}
 use Rattle.slices.specs.Blocks.{block_number, encrypted_out, decrypted_out}
@@ -28,11 +33,13 @@ use Rattle.event.specs.Event.{class_number, readable, event_of}
 use Rattle.event.specs.Read.{no_event, reading}
 use Rattle.event.proofs.Events as event
 use Rattle.frame.specs.Frame.{header, version, length_field, version_byte, start_of, cipher_of, block_count, frame_number, opened, frame_blocks}
+use Rattle.frame.specs.declared.Frame.{Frame}
 use Rattle.frame.specs.Parts.{start_number, start_out, frame_place, frame_length}
 use Rattle.frame.specs.Window.{frame_texts, window_number, window_out}
 use Rattle.frame.proofs.Opening as opening
 use Rattle.frame.proofs.Windows as window
 use Rattle.search.specs.Search.{nothing, found, search_number, search_answer}
+use Rattle.search.proofs.Telling.{same_told}
 use Rattle.search.proofs.Numbers as numbers
 use Rattle.search.proofs.Turns as turns
 use Rattle.demands.specs.Unique.{Determines, OneResult}
@@ -43,6 +50,7 @@ use Rattle.words.proofs.from_be_bytes.Reads as the_from_be_bytes
 use Rattle.words.proofs.le_byte.Reads as the_le_byte
 use Rattle.words.proofs.blocks.block_at.Reads as the_block_at
 use Rattle.words.proofs.blocks.put_block.Reads as the_put_block
+use Rattle.answers.proofs.single_block.Reads as the_single_block
 use Rattle.answers.proofs.put_answer.Reads as the_put_answer
 use Rattle.bitslice.proofs.linear_transform.Reads as the_linear_transform
 use Rattle.bitslice.proofs.linear_transform_inv.Reads as the_linear_transform_inv
@@ -56,7 +64,7 @@ use Rattle.state.proofs.read_words.Reads as the_read_words
 use Rattle.state.proofs.write_words.Reads as the_write_words
 use Rattle.serpent.proofs.s_box.Reads as the_s_box
 use Rattle.serpent.proofs.s_box_inv.Reads as the_s_box_inv
-use Rattle.serpent.proofs.Serpent.key_number.Reads as the_key_number
+use Rattle.serpent.proofs.Serpent.check_key.Reads as the_check_key
 use Rattle.serpent.proofs.Serpent.new_from_slice.Reads as the_new_from_slice
 use Rattle.serpent.proofs.Serpent.encrypt_block.Reads as the_encrypt_block
 use Rattle.serpent.proofs.Serpent.decrypt_block.Reads as the_decrypt_block
@@ -82,7 +90,10 @@ use Rattle.event.proofs.class_number.Reads as the_class_number
 use Rattle.event.proofs.no_event.Reads as the_no_event
 use Rattle.event.proofs.read_block.Reads as the_read_block
 use Rattle.event.proofs.read_event.Reads as the_read_event
-use Rattle.frame.proofs.frame_number.Reads as the_frame_number
+use Rattle.frame.proofs.check_frame.Reads as the_check_frame
+use Rattle.frame.proofs.Frame.start.Reads as the_start
+use Rattle.frame.proofs.Frame.blocks.Reads as the_blocks
+use Rattle.frame.proofs.Frame.count.Reads as the_count
 use Rattle.frame.proofs.open_frame.Reads as the_opened_frame
 use Rattle.frame.proofs.frame_blocks.Reads as the_frame_blocks
 use Rattle.frame.proofs.parts.frame_start.Reads as the_frame_start
@@ -90,6 +101,11 @@ use Rattle.frame.proofs.parts.frame_place.Reads as the_frame_place
 use Rattle.frame.proofs.parts.frame_length.Reads as the_frame_length
 use Rattle.frame.proofs.window.read_window.Reads as the_read_window
 use Rattle.search.proofs.search.Reads as the_search
+
+-- what is seen of a frame that is opened: its bytes, or why not
+abbrev opened_bytes : Result Frame Refusal → Result (List ℕ) Refusal
+opened_bytes (Ok opened) = Ok opened.bytes.now
+opened_bytes (Err refusal) = Err refusal
 
 -- a key of a length that is taken, and of one that is not
 abbrev pub Taken : ℕ → Type 0
@@ -195,6 +211,7 @@ pub record OneAnswer : Type 0 where
   pub le_byte_lem : OneResult the_le_byte.Post
   pub block_at_lem : OneResult the_block_at.Post
   pub put_block_out : Determines the_put_block.Post (λ κs x s. s.1.0.now)
+  pub single_block : OneResult the_single_block.Post
   pub put_answer : OneResult the_put_answer.Post
   pub put_answer_out : Determines the_put_answer.Post (λ κs x s. s.1.0.now)
   pub linear_transform_lem : OneResult the_linear_transform.Post
@@ -209,7 +226,7 @@ pub record OneAnswer : Type 0 where
   pub write_words : OneResult the_write_words.Post
   pub s_box : OneResult the_s_box.Post
   pub s_box_inv : OneResult the_s_box_inv.Post
-  pub key_number_lem : OneResult the_key_number.Post
+  pub check_key : OneResult the_check_key.Post
   pub new_from_slice : OneResult the_new_from_slice.Post
   pub encrypt_block : OneResult the_encrypt_block.Post
   pub decrypt_block : OneResult the_decrypt_block.Post
@@ -247,8 +264,11 @@ pub record OneAnswer : Type 0 where
   pub no_event_lem : OneResult the_no_event.Post
   pub read_block : OneResult the_read_block.Post
   pub read_event : OneResult the_read_event.Post
-  pub frame_number_lem : OneResult the_frame_number.Post
-  pub open_frame : OneResult the_opened_frame.Post
+  pub check_frame : OneResult the_check_frame.Post
+  pub open_frame : Determines the_opened_frame.Post (λ κs x s. opened_bytes x)
+  pub start : OneResult the_start.Post
+  pub blocks : Determines the_blocks.Post (λ κs x s. x.now)
+  pub count : OneResult the_count.Post
   pub frame_blocks_lem : Determines the_frame_blocks.Post (λ κs x s. x.now)
   pub frame_start : OneResult the_frame_start.Post
   pub frame_start_out : Determines the_frame_start.Post (λ κs x s. s.1.0.now)
@@ -369,6 +389,24 @@ answers = record {
 pub once : {A : Type 0} {x y z : A} → x ≡ z → y ≡ z → x ≡ y
 once p q = p ∙ sym q
 
+-- a record of round keys is what its keys are
+its_keys : (ks : List ℕ) (r : Result Serpent Refusal) → IfOk r (λ c. c.round_keys ≡ ks) → IfOk r (λ c. c ≡ record { round_keys = ks })
+its_keys ks (Ok c) e = ap (λ (k : List ℕ). record { round_keys = k }) e
+its_keys ks (Err r) e = tt
+
+-- two frames opened from the same bytes
+one_opened : {n : ℕ} (bytes : List ℕ) (x y : Result Frame Refusal) → number x ≡ n → number y ≡ n
+    → IfOk x (λ f. f.bytes.now ≡ bytes) → IfOk y (λ f. f.bytes.now ≡ bytes) → opened_bytes x ≡ opened_bytes y
+one_opened bytes x y e f p q = same_answer bytes (opened_bytes x) (opened_bytes y) (told x ∙ e) (told y ∙ f) (its_bytes x p) (its_bytes y q)
+  where
+    told : (r : Result Frame Refusal) → number (opened_bytes r) ≡ number r
+    told (Ok o) = refl
+    told (Err r) = refl
+
+    its_bytes : (r : Result Frame Refusal) → IfOk r (λ o. o.bytes.now ≡ bytes) → IfOk (opened_bytes r) (λ b. b ≡ bytes)
+    its_bytes (Ok o) e = e
+    its_bytes (Err r) e = tt
+
 pub one_answer : OneAnswer
 one_answer = record {
   rotate_left = λ κs a x y s t p q. once p q;
@@ -378,12 +416,13 @@ one_answer = record {
   le_byte_lem = λ κs a x y s t p q. once p q;
   block_at_lem = λ κs a x y s t p q. once p q;
   put_block_out = λ κs a x y s t p q. once p q;
-  put_answer = λ κs a x y s t p q. once p.0 q.0;
+  single_block = λ κs a x y s t p q. same_answer _ x y p.0 q.0 p.1 q.1;
+  put_answer = λ κs a x y s t p q. same_done x y p.0 q.0;
   put_answer_out = λ κs a x y s t p q. once p.1 q.1;
   linear_transform_lem = λ κs a x y s t p q. once p q;
   linear_transform_inv_lem = λ κs a x y s t p q. once p q;
-  apply_s = λ κs a x y s t p q. once p q;
-  apply_s_inv = λ κs a x y s t p q. once p q;
+  apply_s = λ κs a x y s t p q. same_answer _ x y p.0 q.0 p.1 q.1;
+  apply_s_inv = λ κs a x y s t p q. same_answer _ x y p.0 q.0 p.1 q.1;
   round_box = λ κs a x y s t p q. once p q;
   round_box_inv = λ κs a x y s t p q. once p q;
   xor_words_lem = λ κs a x y s t p q. once p q;
@@ -392,52 +431,55 @@ one_answer = record {
   write_words = λ κs a x y s t p q. once p q;
   s_box = λ κs a x y s t p q. once p q;
   s_box_inv = λ κs a x y s t p q. once p q;
-  key_number_lem = λ κs a x y s t p q. once p q;
-  new_from_slice = λ κs a x y s t p q. once p q;
+  check_key = λ κs a x y s t p q. same_done x y p q;
+  new_from_slice = λ κs a x y s t p q. same_answer _ x y p.0 q.0 (its_keys _ x p.1) (its_keys _ y q.1);
   encrypt_block = λ κs a x y s t p q. once p q;
   decrypt_block = λ κs a x y s t p q. once p q;
-  encrypt_slice = λ κs a x y s t p q. once p.0 q.0;
+  encrypt_slice = λ κs a x y s t p q. same_done x y p.0 q.0;
   encrypt_slice_out = λ κs a x y s t p q. once p.1 q.1;
-  decrypt_slice = λ κs a x y s t p q. once p.0 q.0;
+  decrypt_slice = λ κs a x y s t p q. same_done x y p.0 q.0;
   decrypt_slice_out = λ κs a x y s t p q. once p.1 q.1;
-  expand_key_slices = λ κs a x y s t p q. once p.0 q.0;
+  expand_key_slices = λ κs a x y s t p q. same_done x y p.0 q.0;
   expand_key_slices_out = λ κs a x y s t p q. once p.1 q.1;
-  new_from_slice_slices = λ κs a x y s t p q. once p.0 q.0;
+  new_from_slice_slices = λ κs a x y s t p q. same_done x y p.0 q.0;
   new_from_slice_slices_out = λ κs a x y s t p q. once p.1 q.1;
-  apply_s_slices = λ κs a x y s t p q. once p.0 q.0;
+  apply_s_slices = λ κs a x y s t p q. same_done x y p.0 q.0;
   apply_s_slices_out = λ κs a x y s t p q. once p.1 q.1;
-  apply_s_inv_slices = λ κs a x y s t p q. once p.0 q.0;
+  apply_s_inv_slices = λ κs a x y s t p q. same_done x y p.0 q.0;
   apply_s_inv_slices_out = λ κs a x y s t p q. once p.1 q.1;
-  linear_transform_slices = λ κs a x y s t p q. once p.0 q.0;
+  linear_transform_slices = λ κs a x y s t p q. same_done x y p.0 q.0;
   linear_transform_slices_out = λ κs a x y s t p q. once p.1 q.1;
-  linear_transform_inv_slices = λ κs a x y s t p q. once p.0 q.0;
+  linear_transform_inv_slices = λ κs a x y s t p q. same_done x y p.0 q.0;
   linear_transform_inv_slices_out = λ κs a x y s t p q. once p.1 q.1;
   fast_encrypt_block = λ κs a x y s t p q. once p q;
   fast_decrypt_block = λ κs a x y s t p q. once p q;
   decrypt_sixteen = λ κs a x y s t p q. once p q;
   encrypt_link = λ κs a x y s t p q. once p q;
   decrypt_link = λ κs a x y s t p q. once p q;
-  encrypt_blocks = λ κs a x y s t p q. once p.0 q.0;
+  encrypt_blocks = λ κs a x y s t p q. same_done x y p.0 q.0;
   encrypt_blocks_out = λ κs a x y s t p q. once p.1 q.1;
-  decrypt_blocks = λ κs a x y s t p q. once p.0 q.0;
+  decrypt_blocks = λ κs a x y s t p q. same_done x y p.0 q.0;
   decrypt_blocks_out = λ κs a x y s t p q. once p.1 q.1;
-  encrypt_chain = λ κs a x y s t p q. once p.0 q.0;
+  encrypt_chain = λ κs a x y s t p q. same_done x y p.0 q.0;
   encrypt_chain_out = λ κs a x y s t p q. once p.1 q.1;
-  decrypt_chain = λ κs a x y s t p q. once p.0 q.0;
+  decrypt_chain = λ κs a x y s t p q. same_done x y p.0 q.0;
   decrypt_chain_out = λ κs a x y s t p q. once p.1 q.1;
   classify = λ κs a x y s t p q. once p q;
   class_number_lem = λ κs a x y s t p q. once p q;
   no_event_lem = λ κs a x y s t p q. once p q;
-  read_block = λ κs a x y s t p q. once p q;
-  read_event = λ κs a x y s t p q. once p q;
-  frame_number_lem = λ κs a x y s t p q. once p q;
-  open_frame = λ κs a x y s t p q. once p q;
+  read_block = λ κs a x y s t p q. same_answer _ x y p.0 q.0 p.1 q.1;
+  read_event = λ κs a x y s t p q. same_answer _ x y p.0 q.0 p.1 q.1;
+  check_frame = λ κs a x y s t p q. same_done x y p q;
+  open_frame = λ κs a x y s t p q. one_opened _ x y p.0 q.0 p.1 q.1;
+  start = λ κs a x y s t p q. once p q;
+  blocks = λ κs a x y s t p q. once p q;
+  count = λ κs a x y s t p q. once p q;
   frame_blocks_lem = λ κs a x y s t p q. once p q;
-  frame_start = λ κs a x y s t p q. once p.0 q.0;
+  frame_start = λ κs a x y s t p q. same_done x y p.0 q.0;
   frame_start_out = λ κs a x y s t p q. once p.1 q.1;
   frame_place_lem = λ κs a x y s t p q. once p q;
   frame_length_lem = λ κs a x y s t p q. once p q;
-  read_window = λ κs a x y s t p q. once p.0 q.0;
+  read_window = λ κs a x y s t p q. same_done x y p.0 q.0;
   read_window_out = λ κs a x y s t p q. once p.1 q.1;
-  search = λ κs a x y s t p q. once p q;
+  search = λ κs a x y s t p q. same_told x y (once p.0 q.0) p.1 q.1;
 }

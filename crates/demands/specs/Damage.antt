@@ -4,7 +4,7 @@ use Rattle.answers.specs.Answers.{on_done}
 use Rattle.words.specs.Sized.{Block}
 use Rattle.chain.specs.Chain.{Blocks}
 use Rattle.chain.specs.Slices.{block_limit}
-use Rattle.search.specs.declared.Searched.{Searched}
+use Rattle.search.specs.Search.{Searched}
 
 -- in the frame of pre, run and rest, the run old is replaced by the run new: both frames are within the limit, and the length field
 -- of each follows its count

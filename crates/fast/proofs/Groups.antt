@@ -3,7 +3,7 @@
 use mathlib.Core.Path.{◌≡◌, sym, ap, ◌∙◌}
 use mathlib.Core.Bool.{cond}
 use mathlib.Core.List.{List}
-use Prim.Native.Nat.{ℕ, zero, suc, ◌+◌, ◌-◌, ◌*◌, ◌<◌}
+use Prim.Native.Nat.{ℕ, zero, suc, ◌+◌, ◌*◌, ◌<◌}
 use native.Mathlib.Decide.{dec_lt}
 use native.Mathlib.Nat.{add-zero, add-suc, add_assoc}
 use native.Mathlib.Omega.{arith}
@@ -54,25 +54,24 @@ module _ (ks : List ℕ) where
           let e : t ≡ 3 = omega arith in
           r ∙ rw (eq-eqb t 3 e, eq-eqb (t + 1) 4 (omega arith)) (ap (last ks) (before ∙ ap (λ (n : ℕ). rounds ks (8 * n + 7) b) e))
 
-  -- ---- deciphering: what is left to do on x after i turns
+  -- ---- deciphering: what is left to do on x where t turns are left
   abbrev pub left : ℕ → List ℕ → List ℕ
-  left i x = cond (eqb i 0) (decrypt_words ks x) (unrounds ks (8 * (4 - i)) x)
+  left t x = cond (eqb t 4) (decrypt_words ks x) (unrounds ks (8 * t) x)
 
-  pub unturn : (x y z : List ℕ) (i : ℕ) → i < 4 → y ≡ cond (eqb (3 - i) 3) (unlast ks x) (unround ks (8 * (3 - i) + 7) x)
-      → z ≡ unrounds_from ks (8 * (3 - i)) 7 y → left (i + 1) z ≡ left i x
+  pub unturn : (x y z : List ℕ) (t : ℕ) → t < 4 → y ≡ cond (eqb t 3) (unlast ks x) (unround ks (8 * t + 7) x)
+      → z ≡ unrounds_from ks (8 * t) 7 y → left t z ≡ left (t + 1) x
   unfolding unrounds decrypt_words unlast
-  unturn x y z i l q r = rw (ne_eqb (i + 1) 0 (λ h. omega arith)) (by (dec_lt 0 i))
+  unturn x y z t l q r = rw (ne_eqb t 4 (λ h. omega arith)) (by (dec_lt t 3))
     where
-      after : unrounds ks (8 * (4 - (i + 1))) z ≡ unrounds ks (8 * (3 - i) + 7) y
-      after =
-          let e : 4 - (i + 1) ≡ 3 - i = omega arith in
-          rw e (ap (unrounds ks (8 * (3 - i))) r ∙ unrounds_join (8 * (3 - i)) 7 y)
+      after : unrounds ks (8 * t) z ≡ unrounds ks (8 * t + 7) y
+      after = ap (unrounds ks (8 * t)) r ∙ unrounds_join (8 * t) 7 y
 
-      by : Dec (0 < i) → unrounds ks (8 * (4 - (i + 1))) z ≡ left i x
+      by : Dec (t < 3) → unrounds ks (8 * t) z ≡ left (t + 1) x
       by (yes m) =
-          let e : 8 * (4 - i) ≡ suc (8 * (3 - i) + 7) = omega arith in
-          after ∙ rw (ne_eqb i 0 (λ h. omega arith), e) (ap (unrounds ks (8 * (3 - i) + 7)) (q ∙ rw (ne_eqb (3 - i) 3 (λ h. omega arith))))
+          let e : 8 * (t + 1) ≡ suc (8 * t + 7) = omega arith in
+          let f = ne_eqb (t + 1) 4 (λ h. omega arith) in
+          after ∙ rw (f, e) (ap (unrounds ks (8 * t + 7)) (q ∙ rw (ne_eqb t 3 (λ h. omega arith))))
       by (no m) =
-          let e : i ≡ 0 = omega arith in
-          let f : 8 * (3 - i) + 7 ≡ 31 = omega arith in
-          after ∙ rw (f, eq-eqb i 0 e) (ap (unrounds ks 31) (q ∙ rw (eq-eqb (3 - i) 3 (omega arith))))
+          let e : t ≡ 3 = omega arith in
+          let f : 8 * t + 7 ≡ 31 = omega arith in
+          after ∙ rw (f, eq-eqb (t + 1) 4 (omega arith)) (ap (unrounds ks 31) (q ∙ rw (eq-eqb t 3 e)))

@@ -1,83 +1,82 @@
 -- A function applied to each of sixteen lanes, one after the other; lanes loaded from blocks, and stored as bytes.
 -- Assumes nothing.
-use mathlib.Core.Path.{◌≡◌, refl, sym, ap, ap₂, ◌∙◌}
+use mathlib.Core.Path.{◌≡◌, refl, sym, ap, ap₂, subst, ◌∙◌}
 use mathlib.Core.List.{List, ◌++◌}
-use Prim.Native.Nat.{ℕ, zero, suc, ◌+◌, ◌*◌, ◌%◌, ◌≤◌, ◌<◌}
+use Prim.Native.Nat.{ℕ, zero, suc, ◌+◌, ◌*◌, ◌≤◌, ◌<◌}
 use native.Mathlib.Decide.{dec_lt}
+use native.Mathlib.Nat.{add-zero}
 use native.Mathlib.Numerals.{add-one}
 use native.Mathlib.Omega.{arith}
 use lib.ListN.{length, take, drop, get_or, set, length-set, length-append, length-drop}
-use lib.Seq.{get_or-set_same, get_or-set_other, take_all, take-append-le, drop-append-le, drop_at}
+use lib.Seq.{take_all, take-append-le, drop-append-le, drop_at}
+use Rattle.std.proofs.lemmas.Grind.{elements}
 use Rattle.words.specs.Blocks.{block_at}
 use Rattle.words.specs.Bytes.{words_of, bytes_of}
 use Rattle.words.proofs.Lists.{four_all}
 use Rattle.words.proofs.Places.{block_there}
 use Rattle.serpent.specs.Block.{decrypt_words, decrypt_bytes}
-use Rattle.fast.specs.Lanes.{lane, put_lane, Lanes, Loaded, lane_bytes, decrypt_each}
+use Rattle.fast.specs.Lanes.{lane, put_lane, EachLane, Lanes, Loaded, lane_bytes, decrypt_each}
 use Rattle.serpent.proofs.Lengths.{decrypted_sixteen}
 
--- ---- a lane stored
+-- ---- a lane stored, its first n words and all four
+unfoldable pub put_words : List ℕ → ℕ → List ℕ → ℕ → List ℕ
+put_words w j x zero = w
+put_words w j x (suc n) = set (put_words w j x n) (j + 16 * n) (get_or x n 0)
+
+pub put_none : (w : List ℕ) (j : ℕ) (x : List ℕ) → put_words w j x 0 ≡ w
+unfolding put_words
+put_none w j x = refl
+
+pub put_more : (w : List ℕ) (j : ℕ) (x : List ℕ) (n : ℕ)
+    → put_words w j x (n + 1) ≡ set (put_words w j x n) (j + 16 * n) (get_or x n 0)
+unfolding put_words
+put_more w j x n = ap (put_words w j x) (add-one n)
+
+pub put_four : (w : List ℕ) (j : ℕ) (x : List ℕ) → put_words w j x 4 ≡ put_lane w j x
+unfolding put_words
+put_four w j x = rw add-zero
+
+pub ruleset words_put = (put_none, put_more, put_four)
+
 module _ (o : List ℕ) (j : ℕ) (x : List ℕ) (l : j < 16) where
-  one : List ℕ
-  one = set o j (get_or x 0 0)
-
-  two : List ℕ
-  two = set one (j + 16) (get_or x 1 0)
-
-  three : List ℕ
-  three = set two (j + 32) (get_or x 2 0)
-
-  -- the places of other lanes
-  other : (p : ℕ) → ¬ (p % 16 ≡ j) → get_or (put_lane o j x) p 0 ≡ get_or o p 0
-  unfolding one two three
-  other p h =
-      get_or-set_other three (j + 48) p (get_or x 3 0) 0 (λ e. h (omega arith)) ∙ get_or-set_other two (j + 32) p (get_or x 2 0) 0 (λ e. h (omega arith))
-      ∙ get_or-set_other one (j + 16) p (get_or x 1 0) 0 (λ e. h (omega arith)) ∙ get_or-set_other o j p (get_or x 0 0) 0 (λ e. h (omega arith))
-
   lane_other : (i : ℕ) → i < 16 → ¬ (i ≡ j) → lane (put_lane o j x) i ≡ lane o i
-  lane_other i m h =
-      rw (other i (λ e. h (omega arith)), other (i + 16) (λ e. h (omega arith)), other (i + 32) (λ e. h (omega arith)), other (i + 48) (λ e. h (omega arith)))
+  lane_other i m h = grind (arith, elements)
 
   lane_same : length o ≡ 64 → length x ≡ 4 → lane (put_lane o j x) j ≡ x
-  unfolding one two three
-  lane_same s n =
-      rw (
-        get_or-set_other three (j + 48) j (get_or x 3 0) 0 (λ e. omega arith) ∙ get_or-set_other two (j + 32) j (get_or x 2 0) 0 (λ e. omega arith)
-            ∙ get_or-set_other one (j + 16) j (get_or x 1 0) 0 (λ e. omega arith) ∙ get_or-set_same o j (get_or x 0 0) 0 (omega arith),
-        get_or-set_other three (j + 48) (j + 16) (get_or x 3 0) 0 (λ e. omega arith) ∙ get_or-set_other two (j + 32) (j + 16) (get_or x 2 0) 0 (λ e. omega arith)
-            ∙ get_or-set_same one (j + 16) (get_or x 1 0) 0 (simp length-set (omega arith)),
-        get_or-set_other three (j + 48) (j + 32) (get_or x 3 0) 0 (λ e. omega arith) ∙ get_or-set_same two (j + 32) (get_or x 2 0) 0 (simp length-set (omega arith)),
-        get_or-set_same three (j + 48) (get_or x 3 0) 0 (simp length-set (omega arith)),
-      )
-      (four_all x n)
+  lane_same s n = grind (arith, elements) ∙ four_all x n
 
 -- ---- lanes below j are done, and the others are as they were
-pub record Going (f : List ℕ → List ℕ) (w o : List ℕ) (j : ℕ) : Type 0 where
+pub record Going (R : List ℕ → List ℕ → Type 0) (w o : List ℕ) (j : ℕ) : Type 0 where
   pub below : j ≤ 16
   pub size : length o ≡ 64
-  pub done : (i : ℕ) → i < j → lane o i ≡ f (lane w i)
+  pub done : (i : ℕ) → i < j → R (lane w i) (lane o i)
   pub rest : (i : ℕ) → j ≤ i → i < 16 → lane o i ≡ lane w i
 
-pub none_yet : (f : List ℕ → List ℕ) (w : List ℕ) → length w ≡ 64 → Going f w w 0
-none_yet f w s = record { below = omega arith; size = s; done = λ i l. absurd (omega arith); rest = λ i _ _. refl }
-
-pub next_lane : (f : List ℕ → List ℕ) {w o : List ℕ} {j : ℕ} (x y o' : List ℕ) → Going f w o j → j < 16 → length y ≡ 4
-    → x ≡ lane o j → y ≡ f x → o' ≡ put_lane o j y → Going f w o' (j + 1)
-next_lane f {w} {o} {j} x y o' g l n p q r = record {
+pub next_lane : (R : List ℕ → List ℕ → Type 0) {w o : List ℕ} {j : ℕ} (x y o' : List ℕ) → Going R w o j → j < 16
+    → length y ≡ 4 → x ≡ lane o j → R x y → o' ≡ put_lane o j y → Going R w o' (j + 1)
+next_lane R {w} {o} {j} x y o' g l n p q r = record {
   below = omega arith;
   size = rw r (simp length-set g.size);
   done = λ i h. by i h (dec_lt i j);
-  rest = λ i h k. ap (λ (v : List ℕ). lane v i) r ∙ lane_other o j y l i k (λ e. omega arith) ∙ g.rest i (omega arith) k;
+  rest = λ i h k. others i k (λ e. omega arith) ∙ g.rest i (omega arith) k;
 }
   where
-    by : (i : ℕ) → i < j + 1 → Dec (i < j) → lane o' i ≡ f (lane w i)
-    by i h (yes m) = ap (λ (v : List ℕ). lane v i) r ∙ lane_other o j y l i (omega arith) (λ e. omega arith) ∙ g.done i m
+    same : lane o' j ≡ y
+    same = ap (λ (v : List ℕ). lane v j) r ∙ lane_same o j y l g.size n
+
+    others : (i : ℕ) → i < 16 → ¬ (i ≡ j) → lane o' i ≡ lane o i
+    others i m h = ap (λ (v : List ℕ). lane v i) r ∙ lane_other o j y l i m h
+
+    by : (i : ℕ) → i < j + 1 → Dec (i < j) → R (lane w i) (lane o' i)
+    by i h (yes m) = subst (R (lane w i)) (sym (others i (omega arith) (λ e. omega arith))) (g.done i m)
     by i h (no m) =
         let e : i ≡ j = omega arith in
-        rw (e, r) (lane_same o j y l g.size n ∙ q ∙ ap f (p ∙ g.rest j (omega arith) l))
+        rw (e, same) (subst (λ (v : List ℕ). R v y) (p ∙ g.rest j (omega arith) l) q)
 
-pub all_done : (f : List ℕ → List ℕ) {w o : List ℕ} {j : ℕ} → Going f w o j → 16 ≤ j → Lanes f w o
-all_done f g h = record { size = g.size; each = λ i l. g.done i (omega arith) }
+-- a step that gives f of a lane
+pub each_by : (f : List ℕ → List ℕ) {R : List ℕ → List ℕ → Type 0} {w r : List ℕ} → EachLane R w r
+    → ((x y : List ℕ) → R x y → y ≡ f x) → Lanes f w r
+each_by f e h = record { size = e.size; each = λ j l. h _ _ (e.each j l) }
 
 -- ---- lanes loaded from the front
 pub load_lane : (bytes : List ℕ) {o : List ℕ} {j : ℕ} (y o' : List ℕ) → Loaded bytes o j → j < 16 → length y ≡ 4

@@ -16,6 +16,11 @@ lane w j = get_or w j 0 ∷ get_or w (j + 16) 0 ∷ get_or w (j + 32) 0 ∷ get_
 abbrev pub put_lane : List ℕ → ℕ → List ℕ → List ℕ
 put_lane w j x = set (set (set (set w j (get_or x 0 0)) (j + 16) (get_or x 1 0)) (j + 32) (get_or x 2 0)) (j + 48) (get_or x 3 0)
 
+-- R relates each lane of w to that lane of r
+pub record EachLane (R : List ℕ → List ℕ → Type 0) (w r : List ℕ) : Type 0 where
+  pub size : length r ≡ 64
+  pub each : (j : ℕ) → j < 16 → R (lane w j) (lane r j)
+
 -- each lane of r is f of that lane of w
 pub record Lanes (f : List ℕ → List ℕ) (w r : List ℕ) : Type 0 where
   pub size : length r ≡ 64

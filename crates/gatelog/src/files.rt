@@ -1,121 +1,50 @@
-// Files read whole, and words of the command line.
-ghost use Rattle.std.specs.Prelude.{◌+◌, ◌≤◌, IfOk, length};
-ghost use Rattle.std.specs.Counts.{IsPrefixLen};
-ghost use Rattle.std.specs.Io.{ReadsAtMost};
-
-use crate::say;
-use std::io::{ErrorKind, Input, Read, Write};
+// Files, standard input and words of the command line, each put into a lent buffer.
+use crate::trouble::Reason;
+use std::env::{Env, FillError};
+use std::io::{ErrorKind, Input, Read};
 use std::rt::Files;
 use std::{fs, io, str};
 
-// How many bytes were read. Where reading failed there are none.
-#[derive(Drop)]
-pub struct Loaded {
-    pub size: usize,
-    pub failed: bool,
-}
-
-pub fn nothing() -> Loaded
-    ensures { result.size ≤ 0 }
-{
-    Loaded {
-        size: 0,
-        failed: true,
-    }
-}
-
 // A name that is not UTF-8 text cannot be opened: std takes no other.
 fn open<R: Files>(rt: &R, path: &[u8]) -> io::Result<R::File> {
-    match str::from_utf8(path) {
-        Ok(name) => fs::open(rt, name),
-        Err(_) => Err(io::Error::from(ErrorKind::InvalidData)),
-    }
+    let name = str::from_utf8(path).map_err(|_| io::Error::from(ErrorKind::InvalidData))?;
+    fs::open(rt, name)
 }
 
-// One read, behind what is there. No byte comes at the end.
-fn more<F: Read>(file: &mut F, buf: &mut [u8], at: usize) -> io::Result<usize>
-    requires { at ≤ length buf.old }
-    ensures { IfOk result (λ n. at + n ≤ length buf.old) }
-{
-    file.read(&mut buf[at..])
-}
-
-// Reads to the end, or until the buffer is full. After an error the buffer may hold what was read before it.
-fn load<F: Read>(file: &mut F, buf: &mut [u8]) -> io::Result<usize>
-    ensures { ReadsAtMost result buf.new }
-{
+// Reads to the end, or until the buffer is full. After an error the buffer may hold what was read before it. Of std's
+// methods `read_exact` fails at the end, and the others need an allocator.
+fn load<'a, F: Read>(file: &mut F, buf: &'a mut [u8]) -> Result<&'a [u8], Reason> {
     let mut size = 0;
     while size < buf.len() {
-        let next = more(file, buf, size)?;
-        if next == 0 {
-            break;
-        }
-        size += next;
-    }
-    Ok(size)
-}
-
-// The same, or a sentence that says why the file of that name is not read.
-fn load_named<F: Read, E: Write>(file: &mut F, err: &mut E, name: &[u8], buf: &mut [u8]) -> Loaded
-    ensures { IsPrefixLen result.size buf.new }
-{
-    match load(file, buf) {
-        Ok(size) => Loaded {
-            size,
-            failed: false,
-        },
-        Err(why) => {
-            say::unread(err, name, &why);
-            nothing()
+        match file.read(&mut buf[size..])? {
+            0 => break,
+            more => size += more,
         }
     }
+    Ok(&buf[..size])
 }
 
-// Whether a word is "-", for standard input.
-fn is_dash(word: &[u8]) -> bool {
-    if word.len() != 1 {
-        return false;
-    }
-    word[0] == b'-'
+pub fn load_file<'a, R: Files>(rt: &R, path: &[u8], buf: &'a mut [u8]) -> Result<&'a [u8], Reason> {
+    let mut file = open(rt, path)?;
+    load(&mut file, buf)
 }
 
-// Whether a word is "--help".
-pub fn is_help(word: &[u8]) -> bool {
-    if word.len() != 6 {
-        return false;
-    }
-    word[0] == b'-'
-        && word[1] == b'-'
-        && word[2] == b'h'
-        && word[3] == b'e'
-        && word[4] == b'l'
-        && word[5] == b'p'
+pub fn load_input<'a, R: Input>(rt: &R, buf: &'a mut [u8]) -> Result<&'a [u8], Reason> {
+    load(&mut rt.reader(), buf)
 }
 
-// The file of a path, read whole into the first bytes of `buf`, or a sentence that says why it is not.
-pub fn load_file<R: Files, E: Write>(rt: &R, err: &mut E, path: &[u8], buf: &mut [u8]) -> Loaded
-    ensures { IsPrefixLen result.size buf.new }
-{
-    match open(rt, path) {
-        Ok(mut file) => load_named(&mut file, err, path, buf),
-        Err(why) => {
-            say::unread(err, path, &why);
-            nothing()
-        }
-    }
-}
-
-// The same, where "-" is standard input.
-pub fn load_frame<R: Files + Input, E: Write>(
+// An argument, by its number.
+pub fn argument<'a, R: Env>(
     rt: &R,
-    err: &mut E,
-    path: &[u8],
-    buf: &mut [u8],
-) -> Loaded
-    ensures { IsPrefixLen result.size buf.new }
-{
-    if !is_dash(path) {
-        return load_file(rt, err, path, buf);
-    }
-    load_named(&mut rt.reader(), err, b"standard input", buf)
+    number: usize,
+    buf: &'a mut [u8],
+) -> Result<&'a [u8], FillError> {
+    let size = rt.arg(number, buf)?;
+    Ok(&buf[..size])
+}
+
+// Whether the command was started with an argument of that number, however long.
+pub fn is_given<R: Env>(rt: &R, number: usize) -> bool {
+    let mut word = [0u8; 1];
+    !matches!(rt.arg(number, &mut word), Err(FillError::NotPresent))
 }

@@ -6,5 +6,5 @@ use std::process::ExitCode;
 
 fn main(rt: HostRuntime) -> ExitCode {
     let status = gatelog_main(&rt, &mut rt.stdout(), &mut rt.stderr());
-    ExitCode::from(status as u8)
+    ExitCode::from(status)
 }

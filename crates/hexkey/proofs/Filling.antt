@@ -1,99 +1,46 @@
--- A buffer that is filled with a key: what one more byte of the text does to it.
+-- A buffer that a key is put into, byte by byte.
 -- Assumes nothing.
-use mathlib.Core.Path.{◌≡◌, refl, sym, ap, ap₂, ◌∙◌}
-use mathlib.Core.List.{List, ◌∷◌}
-use Prim.Native.Nat.{ℕ, ◌+◌, ◌*◌, ◌/◌, ◌%◌, ◌≤◌, ◌<◌}
-use native.Mathlib.Omega.{arith}
-use lib.ListN.{length, drop, get_or, set, length-set, length-drop}
-use lib.Seq.{paste, paste-zero}
+use Rattle.std.proofs.Common.{◌≡◌, ℕ, ◌+◌, ◌≤◌, ◌<◌, List, [], ◌∷◌, length, get_or, drop, set, refl, sym, ap, ap₂, ◌∙◌, arith, length-drop, length-set}
+use Rattle.std.proofs.lemmas.List.{drop_more, set-get_or}
+use Rattle.std.proofs.lemmas.List.Edits.{paste_none}
+use Rattle.std.proofs.Math.Seq.{paste}
 use Rattle.answers.specs.Answers.{front}
 use Rattle.answers.proofs.Answers.{next_pasted, pasted}
-use Rattle.hexkey.specs.Key.{value, digits, key_bytes}
-use Rattle.hexkey.proofs.Texts.{digit_here, digit_past, no_digits, there, before, key_length, second}
 
--- after i bytes of a text: n digits are read, the last of them is at hand, and each two of them are pasted as a byte
-pub record Filled (text was : List ℕ) (n last i : ℕ) (out : List ℕ) : Type 0 where
-  pub few : n ≤ i
-  pub most : n ≤ length (digits text)
-  pub small : last < 16
+-- i bytes of the key stand in front of what the buffer was, and the rest is still to come
+pub record Filled (key was : List ℕ) (i : ℕ) (rest out : List ℕ) : Type 0 where
+  pub few : i ≤ length key
   pub size : length out ≡ length was
-  pub rest : drop n (digits text) ≡ digits (drop i text)
-  pub held : last ≡ get_or (0 ∷ digits text) n 0
-  pub done : out ≡ paste was 0 (key_bytes text) (n / 2)
+  pub later : rest ≡ drop i key
+  pub done : out ≡ paste was 0 key i
 
-module _ (text was : List ℕ) where
-  pub start : Filled text was 0 0 0 was
-  start = record {
-    few = omega arith;
-    most = omega arith;
-    small = omega arith;
-    size = refl;
-    rest = refl;
-    held = refl;
-    done = paste-zero was 0 (key_bytes text);
-  }
+module _ (key was : List ℕ) where
+  pub start : Filled key was 0 key was
+  start = record { few = omega arith; size = refl; later = refl; done = paste_none was 0 key }
 
-  -- at the end the whole key is pasted
-  pub end : {n last i : ℕ} {out : List ℕ} → Filled text was n last i out → i ≡ length text → out ≡ front (key_bytes text) was
-  end {n} {i = i} f e =
-      let none = ap length (f.rest ∙ no_digits text i e) in
-      let all : n / 2 ≡ length (key_bytes text) = omega (arith, length-drop n (digits text), key_length text) in
-      f.done ∙ ap (paste was 0 (key_bytes text)) all ∙ pasted (key_bytes text) was
+  module _ {i : ℕ} {rest out : List ℕ} (f : Filled key was i rest out) where
+    pub more : {byte : ℕ} {others : List ℕ} → i < length out → rest ≡ byte ∷ others
+        → Filled key was (i + 1) others (set out i byte)
+    more {byte} {others} l e =
+        let inside : i < length key = omega (arith, length-drop i key, ap length (sym f.later ∙ e)) in
+        let split : byte ∷ others ≡ get_or key i 0 ∷ drop (i + 1) key = sym e ∙ f.later ∙ drop_more key i 0 inside in
+        let first : byte ≡ get_or key i 0 = ap (λ (l : List ℕ). get_or l 0 0) split in
+        record {
+          few = omega arith;
+          size = simp length-set f.size;
+          later = ap (drop 1) split;
+          done = ap₂ (λ (o : List ℕ) (b : ℕ). set o i b) f.done first ∙ next_pasted key was i (omega (arith, f.size)) inside;
+        }
 
-module _ (text was : List ℕ) {n last i : ℕ} {out : List ℕ} (f : Filled text was n last i out) (h : i < length text) where
-  -- no digit
-  pub skipped : 16 ≤ value (get_or text i 0) → Filled text was n last (i + 1) out
-  skipped l = record {
-    few = omega arith;
-    most = f.most;
-    small = f.small;
-    size = f.size;
-    rest = f.rest ∙ digit_past text i h l;
-    held = f.held;
-    done = f.done;
-  }
+    whole : length key ≤ i → out ≡ front key was
+    whole l =
+        let all : i ≡ length key = omega (arith, f.few) in
+        f.done ∙ ap (paste was 0 key) all ∙ pasted key was
 
-  module _ {d : ℕ} (e : d ≡ value (get_or text i 0)) (l : d < 16) where
-    here : (n < length (digits text)) × (get_or (digits text) n 0 ≡ value (get_or text i 0)) × (drop (n + 1) (digits text) ≡ digits (drop (i + 1) text))
-    here = there (digits text) _ n (f.rest ∙ digit_here text i h (omega arith))
+    -- no byte is left
+    pub ended : rest ≡ [] → set out i (get_or out i 0) ≡ front key was
+    ended e = set-get_or out i 0 ∙ whole (omega (arith, length-drop i key, ap length (sym f.later ∙ e)))
 
-    -- a digit, with what is then in the buffer
-    digit : {now : List ℕ} → length now ≡ length was → now ≡ paste was 0 (key_bytes text) ((n + 1) / 2) → Filled text was (n + 1) d (i + 1) now
-    digit s p = record {
-      few = omega arith;
-      most = omega (arith, here.0);
-      small = l;
-      size = s;
-      rest = here.2;
-      held = e ∙ sym here.1 ∙ sym (before (digits text) n);
-      done = p;
-    }
-
-    -- a byte's first digit
-    pub first : n % 2 ≡ 0 → Filled text was (n + 1) d (i + 1) out
-    first even =
-        let same : n / 2 ≡ (n + 1) / 2 = omega arith in
-        digit f.size (f.done ∙ ap (paste was 0 (key_bytes text)) same)
-
-    -- its second, whose byte is stored
-    pub fits : length (key_bytes text) ≤ length was → n % 2 ≡ 1 → n / 2 < length out
-    fits room odd = omega (arith, here.0, key_length text)
-
-    pub whole : {place byte : ℕ} → length (key_bytes text) ≤ length was → n % 2 ≡ 1 → place ≡ n / 2 → byte ≡ 16 * last + d
-        → Filled text was (n + 1) d (i + 1) (set out place byte)
-    whole {place} {byte} room odd at is =
-        let key = key_bytes text in
-        let inside : n / 2 < length key = omega (arith, here.0, key_length text) in
-        let next : n / 2 + 1 ≡ (n + 1) / 2 = omega arith in
-        let both = ap₂ (λ (a b : ℕ). 16 * a + b) f.held (e ∙ sym here.1) in
-        let stored : byte ≡ get_or key (n / 2) 0 = is ∙ both ∙ sym (second text n odd here.0) in
-        digit
-        (simp length-set f.size)
-        (ap₂ (set out) at stored
-        ∙ ap (λ (o : List ℕ). set o (n / 2) (get_or key (n / 2) 0)) f.done
-        ∙ next_pasted key was (n / 2) (omega arith) inside
-        ∙ ap (paste was 0 key) next)
-
--- the same by other names
-pub renamed : {text was out now : List ℕ} {n last m d i : ℕ} → Filled text was n last i out → m ≡ n → d ≡ last → now ≡ out → Filled text was m d i now
-renamed f e g h = rw (e, g, h) f
+    -- no place is left
+    pub full : length out ≤ i → length key ≤ length was → out ≡ front key was
+    full l room = whole (omega (arith, f.size))

@@ -1,4 +1,3 @@
-pub mod Values
-pub mod Texts
+pub mod Spelling
 pub mod Filling
-pub mod Tests
+pub mod Reading

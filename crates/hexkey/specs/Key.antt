@@ -2,7 +2,6 @@
 use Rattle.std.specs.Prelude.{ℕ, suc, ◌+◌, ◌-◌, ◌*◌, ◌/◌, ◌%◌, Bool, cond, ◌&&◌, List, [], ◌∷◌, eqb, leb, ltb, length, get_or}
 use Rattle.answers.specs.Answers.{front}
 use Rattle.words.specs.Sized.{list_of}
-use Rattle.hexkey.specs.declared.Spelt.{Spelt}
 
 -- ---- a byte
 abbrev pub within : ℕ → ℕ → ℕ → Bool
@@ -42,6 +41,10 @@ unfoldable pub key_bytes : List ℕ → List ℕ
 key_bytes text = list_of (byte_of (digits text)) (length (digits text) / 2)
 
 -- how a text is spelt: the number of its digits, and the place of what is wrong
+pub record Spelt : Type 0 where
+  pub digits : ℕ
+  pub wrong : ℕ
+
 unfoldable pub spelt : List ℕ → Spelt
 spelt text = record { digits = length (digits text); wrong = wrong text }
 

@@ -1,1 +1,3 @@
 pub mod Key
+pub mod Symbols
+pub mod Answers

@@ -1,92 +1,83 @@
 // A key spelt in hexadecimal digits, read into bytes. White space between the digits is left out.
 #![tactic(auto)]
 
-ghost use Rattle.std.specs.Prelude.{◌≡◌, ◌≤◌, length};
+mod digits;
+mod symbol;
+
+ghost use Rattle.std.specs.Prelude.{◌≡◌, ◌≤◌, eqb, length, position};
 ghost use Rattle.answers.specs.Answers.{front};
-ghost use Rattle.hexkey.specs.Key.{value, digits, wrong, key_bytes, spelt, key_out};
+ghost use Rattle.hexkey.specs.Key.{value, digits, spelt, key_bytes, key_out};
+ghost use Rattle.hexkey.specs.Answers.{answer, told};
 
-// How a text is spelt: the number of its digits, and the place, counted from 1, of the first byte
-// that is neither digit nor white space; 0 where there is none.
-#[derive(Drop)]
-pub struct Spelt {
-    pub digits: usize,
-    pub wrong: usize,
+use digits::{Bytes, Digits};
+use symbol::Symbol;
+
+// Why a text spells no key for a buffer. Each says how many digits the text has.
+#[derive(Clone, Copy, Debug, PartialEq, Eq)]
+pub enum Misspelt {
+    // The byte at that place, counted from 1, is the first that is neither digit nor white space.
+    Wrong { place: usize, digits: usize },
+    // The last digit has no second.
+    Odd { digits: usize },
+    // The buffer has no room for the key's bytes.
+    Long { digits: usize },
 }
 
-// The value of a digit; 16 for white space, and 17 for any other byte.
-fn value_of(b: u8) -> u8
-    ensures { result ≡ value b }
-{
-    match b {
-        b'0'..=b'9' => b - 48,
-        b'A'..=b'F' => b - 55,
-        b'a'..=b'f' => b - 87,
-        9..=13 => 16,
-        32 => 16,
-        _ => 17,
-    }
-}
-
-// The place of the first byte that is neither digit nor white space, or 0.
-fn first_wrong(text: &[u8]) -> usize
-    ensures { result ≡ wrong text.now }
-{
-    for i in 0..text.len() {
-        if value_of(text[i]) == 17 {
-            return i + 1;
-        }
-    }
-    0
-}
-
+#[tactic(auto, using(crate::proofs::Spelling::digits_within))]
 fn count_digits(text: &[u8]) -> usize
     ensures { result ≡ length (digits text.now) }
 {
-    let mut n = 0;
-    for i in 0..text.len() {
-        if value_of(text[i]) < 16 {
-            n += 1;
-        }
-    }
-    n
+    Digits(text).count()
 }
 
-// Puts the key's bytes in front. With each second digit a byte is whole.
+// Whether a byte is neither digit nor white space.
+#[tactic(auto, unfolding(crate::specs::Symbols::symbol, crate::specs::Key::value))]
+fn is_wrong(byte: u8) -> bool
+    ensures { result ≡ eqb (value byte) 17 }
+{
+    matches!(Symbol::from(byte), Symbol::Other)
+}
+
+// How many bytes stand before the first that is neither digit nor white space.
+fn find_wrong(text: &[u8]) -> Option<usize>
+    ensures { result ≡ position (λ b. eqb (value b) 17) text.now }
+{
+    text.iter().position(|byte| is_wrong(*byte))
+}
+
+// Puts the key's bytes in front.
 fn fill(text: &[u8], out: &mut [u8])
     requires { length (key_bytes text.now) ≤ length out.old }
     ensures { out.new ≡ front (key_bytes text.now) out.old }
 {
-    let mut n: usize = 0;
-    let mut last = 0;
-    for i in 0..text.len() {
-        let digit = value_of(text[i]);
-        if digit < 16 {
-            if n % 2 == 1 {
-                out[n / 2] = 16 * last + digit;
-            }
-            last = digit;
-            n += 1;
-        }
+    let mut bytes = Bytes(Digits(text));
+    for place in out {
+        let Some(byte) = bytes.next() else {
+            break;
+        };
+        *place = byte;
     }
 }
 
-// Reads a key. The buffer changes only where the text spells whole bytes and there is room for them.
-pub fn read_key(text: &[u8], out: &mut [u8]) -> Spelt
-    ensures spelt { result ≡ spelt text.now }
+// Reads a key, and answers how many bytes it has. The buffer changes only where it is read.
+#[tactic(auto, using(crate::proofs::Reading::reading), unfolding(crate::specs::Key::key_out, crate::specs::Key::spelt))]
+pub fn read_key(text: &[u8], out: &mut [u8]) -> Result<usize, Misspelt>
+    ensures answer { result ≡ answer text.now (length out.old) }
     ensures written { out.new ≡ key_out text.now out.old }
+    ensures spelt { told result ≡ spelt text.now }
 {
     let digits = count_digits(text);
-    let wrong = first_wrong(text);
-    let answer = Spelt { digits, wrong };
-    if wrong != 0 {
-        return answer;
+    if let Some(before) = find_wrong(text) {
+        let place = before + 1;
+        return Err(Misspelt::Wrong { place, digits });
     }
     if digits % 2 != 0 {
-        return answer;
+        return Err(Misspelt::Odd { digits });
     }
-    if out.len() < digits / 2 {
-        return answer;
+    let size = digits / 2;
+    if out.len() < size {
+        return Err(Misspelt::Long { digits });
     }
     fill(text, out);
-    answer
+    Ok(size)
 }

@@ -1,8 +1,6 @@
-pub mod Writing
 pub mod Numerals
-pub mod Signs
-pub mod Times
 pub mod Rows
 pub mod Pages
+pub mod Counts
 pub mod Rooms
 pub mod Exact

@@ -1,20 +1,19 @@
 // The Serpent block cipher (src/lib.rs of the Rust): key setup, and one block each way.
 #![tactic(auto)]
 
-ghost use Rattle.std.specs.Prelude.{◌≡◌, ◌+◌, ◌*◌, ◌%◌, ◌≤◌, ◌<◌, length};
+ghost use Rattle.std.specs.Prelude.{◌≡◌, ◌+◌, ◌*◌, ◌%◌, ◌≤◌, ◌<◌, IfOk, length};
+ghost use Rattle.answers.specs.Numbers.{number};
 ghost use Rattle.words.specs.Sized.{four};
 ghost use Rattle.words.specs.Bytes.{word_at, words_of};
 ghost use Rattle.bitslice.specs.Boxes.{box_words, box_inv_words};
 ghost use Rattle.serpent.specs.Words.{stored};
-ghost use Rattle.serpent.specs.Schedule.{padded, prekey, prekeys, box_of_key, round_keys};
+ghost use Rattle.serpent.specs.Schedule.{padded, prekey, prekeys, box_of_key, round_keys, schedule};
 ghost use Rattle.serpent.specs.Block.{mix, encrypt_bytes, decrypt_bytes};
-ghost use Rattle.serpent.specs.Keys.{key_number, keyed};
+ghost use Rattle.serpent.specs.Keys.{key_number};
 ghost use Rattle.serpent.specs.Turns.{KeysUpTo};
 
-use answers::{DONE, KEY_LENGTH};
-use bitslice::{
-    apply_s, apply_s_inv, linear_transform, linear_transform_inv, round_box, round_box_inv,
-};
+use answers::Refusal;
+use bitslice::{linear_transform, linear_transform_inv, round_box, round_box_inv};
 use state::{read_words, write_words, xor};
 use words::{Words, from_le_bytes, rotate_left};
 
@@ -24,22 +23,13 @@ pub struct Serpent {
     pub round_keys: [u32; 132],
 }
 
-// What key setup answers. With any number but DONE the record is all zeros.
-#[derive(Drop)]
-pub struct Keyed {
-    pub number: u32,
-    pub cipher: Serpent,
-}
-
 // The key bytes, the mark 0x01 behind them where there is room, and zeros.
 fn expand_key(source: &[u8]) -> [u8; 32]
     requires { length source.now ≤ 32 }
     ensures { result ≡ padded source.now }
 {
     let mut key = [0u8; 32];
-    for i in 0..source.len() {
-        key[i] = source[i];
-    }
+    key[..source.len()].copy_from_slice(source);
     if source.len() < 32 {
         key[source.len()] = 1;
     }
@@ -50,25 +40,22 @@ fn expand_key(source: &[u8]) -> [u8; 32]
 pub fn padded_key(source: &[u8]) -> [u8; 32]
     ensures { result ≡ padded source.now }
 {
-    if source.len() > 32 {
-        return expand_key(&source[0..32]);
-    }
-    expand_key(source)
+    expand_key(&source[..source.len().min(32)])
 }
 
-// The words of a box alone: the number that apply_s answers is always DONE, as the index is reduced by 8.
+// The words of a box alone: there is one for every index, which is reduced by 8.
+#[inline(always)]
 pub fn s_box(index: usize, words: Words) -> Words
     ensures { result ≡ box_words index words }
 {
-    let boxed = apply_s(index, words);
-    boxed.words
+    round_box(index, words)
 }
 
+#[inline(always)]
 pub fn s_box_inv(index: usize, words: Words) -> Words
     ensures { result ≡ box_inv_words index words }
 {
-    let boxed = apply_s_inv(index, words);
-    boxed.words
+    round_box_inv(index, words)
 }
 
 // Four words from place p on, read and stored.
@@ -177,36 +164,25 @@ impl Serpent {
 
     pub const PHI: u32 = 0x9e37_79b9;
 
-    // The number for a key of that many bytes.
-    pub fn key_number(length: usize) -> u32
-        ensures { result ≡ key_number length }
+    // The test of a key of that many bytes.
+    pub fn check_key(length: usize) -> Result<(), Refusal>
+        ensures { number result ≡ key_number length }
     {
         if length < Self::LEAST_KEY || length > Self::GREATEST_KEY {
-            return KEY_LENGTH;
+            return Err(Refusal::KeyLength);
         }
-        DONE
+        Ok(())
     }
 
     // Key setup over any bytes.
-    pub fn new_from_slice(key: &[u8]) -> Keyed
-        ensures { result ≡ keyed key.now }
+    pub fn new_from_slice(key: &[u8]) -> Result<Serpent, Refusal>
+        ensures number { number result ≡ key_number (length key.now) }
+        ensures round_keys { IfOk result (λ cipher. cipher.round_keys ≡ schedule key.now) }
     {
-        let number = Self::key_number(key.len());
-        if number != DONE {
-            return Keyed {
-                number,
-                cipher: Serpent {
-                    round_keys: [0u32; 132],
-                },
-            };
-        }
-        let key = expand_key(key);
-        let words = make_prekeys(key);
-        let round_keys = make_round_keys(&words);
-        Keyed {
-            number,
-            cipher: Serpent { round_keys },
-        }
+        Self::check_key(key.len())?;
+        let prekeys = make_prekeys(expand_key(key));
+        let round_keys = make_round_keys(&prekeys);
+        Ok(Serpent { round_keys })
     }
 
     // One block enciphered under any 33 round keys.
@@ -232,8 +208,7 @@ impl Serpent {
         let s = mix_key(round_keys, Self::ROUNDS, read_words(block));
         let xb = s_box_inv(Self::ROUNDS - 1, s);
         let mut b = mix_key(round_keys, Self::ROUNDS - 1, xb);
-        for n in 0..Self::ROUNDS - 1 {
-            let i = 30 - n;
+        for i in (0..Self::ROUNDS - 1).rev() {
             let s = linear_transform_inv(b);
             let xb = round_box_inv(i, s);
             let next = mix_key(round_keys, i, xb);

@@ -1,19 +1,12 @@
--- One block under a key, over slices: what number 0 tells of the lengths, and what is written then.
+-- One block under a key, over slices: what number 0 tells of the lengths, and when each number is given.
 -- Assumes nothing.
-use mathlib.Core.Path.{◌≡◌, sym, ap, ap₂, ◌∙◌}
-use mathlib.Core.List.{List, ◌++◌}
+use mathlib.Core.Path.{◌≡◌, ◌∙◌}
 use Prim.Native.Nat.{ℕ, suc, ◌≤◌, ◌<◌}
 use native.Mathlib.Omega.{arith}
 use borrow.Author.Tests.{lt-ltb, le-ltb, ltb-false, eq-eqb, ne_eqb, eqb-true}
-use lib.ListN.{length, drop}
-use lib.Seq.{take_all}
-use Rattle.answers.specs.Answers.{◌when◌, on_done, first_number, left, front}
-use Rattle.answers.proofs.Answers.{done, first_here, passed, not_held, holds, left_done}
-use Rattle.words.specs.Blocks.{block_at, put_at}
-use Rattle.words.proofs.Places.{block_whole, put_there}
-use Rattle.serpent.specs.declared.Keyed.{Keyed}
-use Rattle.serpent.specs.Schedule.{schedule}
-use Rattle.serpent.specs.Keys.{key_number, keyed}
+use Rattle.answers.specs.Answers.{◌when◌, on_done, first_number}
+use Rattle.answers.proofs.Answers.{first_here, passed, not_held, holds}
+use Rattle.serpent.specs.Keys.{key_number}
 use Rattle.slices.specs.Blocks.{block_number}
 
 pub record Ready (key block out : ℕ) : Type 0 where
@@ -50,22 +43,3 @@ module _ (key block out : ℕ) where
   pub short_buffer : key_number key ≡ 0 → block ≡ 16 → out < 16 → block_number key block out ≡ 5
   unfolding block_number first_number on_done ◌when◌
   short_buffer e f h = simp (e, eq-eqb _ _ f, lt-ltb _ _ h)
-
--- a block put in front of a buffer with room fills its first bytes
-in_front : (out answer : List ℕ) → 16 ≤ length out → length answer ≡ 16 → put_at out 0 answer ≡ front answer out
-unfolding front
-in_front out answer h e =
-    sym (put_there out 0 answer (omega arith)) ∙ ap₂ (λ (a : List ℕ) (n : ℕ). a ++ drop n out) (take_all 16 answer (omega arith)) (sym e)
-
--- for any function of round keys and block that gives sixteen bytes
-module _ (E : List ℕ → List ℕ → List ℕ) (sixteen : (ks b : List ℕ) → length (E ks b) ≡ 16) where
-  pub written : (key block out : List ℕ) {n : ℕ} {r : Keyed} {b answer last : List ℕ}
-      → n ≡ block_number (length key) (length block) (length out) → n ≡ 0
-      → r ≡ keyed key → b ≡ block_at block 0 → answer ≡ E r.cipher.round_keys b → last ≡ put_at out 0 answer
-      → last ≡ left (block_number (length key) (length block) (length out)) (E (schedule key) block) out
-  written key block out e z er eb ea el =
-      let zero = sym e ∙ z in
-      let ok = ready _ _ _ zero in
-      let keys = ap (λ (k : Keyed). k.cipher.round_keys) er ∙ done _ _ ok.keys in
-      let answer = ea ∙ ap₂ E keys (eb ∙ block_whole block ok.size) in
-      el ∙ ap (put_at out 0) answer ∙ in_front out _ ok.room (sixteen _ _) ∙ sym (left_done _ _ zero)

@@ -4,12 +4,9 @@ use mathlib.Core.Path.{◌≡◌, refl, ap, ◌∙◌}
 use mathlib.Core.List.{List}
 use Prim.Native.Nat.{ℕ}
 use borrow.Author.Tests.{eq-eqb, ne_eqb}
-use lib.ListN.{length}
 use Rattle.answers.specs.Answers.{◌when◌, on_done, first_number, room_number}
 use Rattle.answers.proofs.Answers.{first_here, first_later, last_test}
 use Rattle.words.specs.Bytes.{words_of, bytes_of}
-use Rattle.words.specs.Blocks.{block_at}
-use Rattle.words.proofs.Places.{block_whole}
 use Rattle.bitslice.specs.Chosen.{box_number}
 use Rattle.serpent.specs.Keys.{key_number}
 use Rattle.slices.specs.Parts.{setup_number, on_words, words_number, boxed_number}
@@ -40,16 +37,11 @@ module _ (index words out : ℕ) where
   unfolding boxed_number first_number on_done ◌when◌
   bad_boxed h = simp (ne_eqb _ _ h)
 
-  pub no_box : words ≡ 16 → (box_number index ≡ 0 → ⊥) → boxed_number index words out ≡ box_number index
-  unfolding boxed_number ◌when◌
-  no_box e h = simp (eq-eqb _ _ e) (first_later _ refl ∙ first_here _ h)
-
   pub good_boxed : words ≡ 16 → box_number index ≡ 0 → boxed_number index words out ≡ room_number out 16
   unfolding boxed_number ◌when◌
   good_boxed e z = simp (eq-eqb _ _ e) (first_later _ refl ∙ first_later _ z ∙ last_test _)
 
--- sixteen bytes read as words, changed, and written as bytes
-pub through : (f : List ℕ → List ℕ) (words : List ℕ) {block read changed bytes : List ℕ} → length words ≡ 16
-    → block ≡ block_at words 0 → read ≡ words_of block 4 → changed ≡ f read → bytes ≡ bytes_of changed 16 → bytes ≡ on_words f words
-through f words long b r c e =
-    e ∙ ap (λ (w : List ℕ). bytes_of w 16) (c ∙ ap f (r ∙ ap (λ (s : List ℕ). words_of s 4) (b ∙ block_whole words long)))
+-- words read, changed, and written as bytes
+pub through : (f : List ℕ → List ℕ) (words : List ℕ) {read changed bytes : List ℕ}
+    → read ≡ words_of words 4 → changed ≡ f read → bytes ≡ bytes_of changed 16 → bytes ≡ on_words f words
+through f words r c e = e ∙ ap (λ (w : List ℕ). bytes_of w 16) (c ∙ ap f r)

@@ -3,56 +3,66 @@
 
 pub mod parts;
 
-ghost use Rattle.std.specs.Prelude.{◌≡◌, length};
+ghost use Rattle.std.specs.Prelude.{◌≡◌, ℕ, List, length};
+ghost use Rattle.answers.specs.Answers.{left};
+ghost use Rattle.answers.specs.Numbers.{number};
+ghost use Rattle.serpent.specs.Schedule.{schedule};
+ghost use Rattle.serpent.specs.Block.{encrypt_bytes, decrypt_bytes};
 ghost use Rattle.slices.specs.Blocks.{block_number, encrypted_out, decrypted_out};
 
-use answers::{DONE, OUT_SHORT, TEXT_LENGTH};
+use answers::{Refusal, put_answer, single_block};
 use serpent::Serpent;
-use words::blocks::{block_at, put_block};
 
-// The tests in their order, on the lengths of key, block and output buffer.
-fn block_number(key: usize, block: usize, out: usize) -> u32
-    ensures { result ≡ block_number key block out }
+// One way through the cipher: enciphering, or deciphering.
+trait Way {
+    ghost of_block: { List ℕ → List ℕ → List ℕ };
+
+    fn block(round_keys: &[u32; 132], block: [u8; 16]) -> [u8; 16]
+        ensures { result ≡ of_block round_keys.now block };
+}
+
+struct Enciphering;
+
+struct Deciphering;
+
+impl Way for Enciphering {
+    ghost of_block = { encrypt_bytes };
+
+    fn block(round_keys: &[u32; 132], block: [u8; 16]) -> [u8; 16] {
+        Serpent::encrypt_block(round_keys, block)
+    }
+}
+
+impl Way for Deciphering {
+    ghost of_block = { decrypt_bytes };
+
+    fn block(round_keys: &[u32; 132], block: [u8; 16]) -> [u8; 16] {
+        Serpent::decrypt_block(round_keys, block)
+    }
+}
+
+// The tests in their order, and then the block under the key's round keys, into the first bytes of `out`.
+fn under_key<W: Way>(key: &[u8], block: &[u8], out: &mut [u8]) -> Result<(), Refusal>
+    ensures number { number result ≡ block_number (length key.now) (length block.now) (length out.old) }
+    ensures written { out.new ≡ left (block_number (length key.now) (length block.now) (length out.old)) (W.of_block (schedule key.now) block.now) out.old }
 {
-    let number = Serpent::key_number(key);
-    if number != DONE {
-        return number;
-    }
-    if block != 16 {
-        return TEXT_LENGTH;
-    }
-    if out < 16 {
-        return OUT_SHORT;
-    }
-    DONE
+    let cipher = Serpent::new_from_slice(key)?;
+    let block = single_block(block)?;
+    put_answer(&W::block(&cipher.round_keys, block), out)
 }
 
 // One block enciphered under a key, into the first bytes of `out`.
-pub fn encrypt_block(key: &[u8], block: &[u8], out: &mut [u8]) -> u32
-    ensures number { result ≡ block_number (length key.now) (length block.now) (length out.old) }
+pub fn encrypt_block(key: &[u8], block: &[u8], out: &mut [u8]) -> Result<(), Refusal>
+    ensures number { number result ≡ block_number (length key.now) (length block.now) (length out.old) }
     ensures written { out.new ≡ encrypted_out key.now block.now out.old }
 {
-    let number = block_number(key.len(), block.len(), out.len());
-    if number != DONE {
-        return number;
-    }
-    let keyed = Serpent::new_from_slice(key);
-    let cipher = Serpent::encrypt_block(&keyed.cipher.round_keys, block_at(block, 0));
-    put_block(cipher, out, 0);
-    number
+    under_key::<Enciphering>(key, block, out)
 }
 
 // One block deciphered under a key, into the first bytes of `out`.
-pub fn decrypt_block(key: &[u8], block: &[u8], out: &mut [u8]) -> u32
-    ensures number { result ≡ block_number (length key.now) (length block.now) (length out.old) }
+pub fn decrypt_block(key: &[u8], block: &[u8], out: &mut [u8]) -> Result<(), Refusal>
+    ensures number { number result ≡ block_number (length key.now) (length block.now) (length out.old) }
     ensures written { out.new ≡ decrypted_out key.now block.now out.old }
 {
-    let number = block_number(key.len(), block.len(), out.len());
-    if number != DONE {
-        return number;
-    }
-    let keyed = Serpent::new_from_slice(key);
-    let text = Serpent::decrypt_block(&keyed.cipher.round_keys, block_at(block, 0));
-    put_block(text, out, 0);
-    number
+    under_key::<Deciphering>(key, block, out)
 }

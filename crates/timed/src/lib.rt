@@ -7,6 +7,7 @@ ghost use Rattle.serpent.specs.Block.{encrypt_bytes, decrypt_bytes};
 ghost use Rattle.serpent.specs.Keys.{keyed};
 ghost use Rattle.chain.specs.Slices.{enciphered, deciphered, blocks_number};
 
+use answers::number_of;
 use serpent::Serpent;
 
 // Key setup: its number, and the round keys, which are zeros where the key is refused.
@@ -14,11 +15,13 @@ pub fn timed_new_from_slice(key: &[u8], round_keys: &mut [u32; 132]) -> u32
     ensures number { result ≡ (keyed key.now).number }
     ensures written { round_keys.new ≡ (keyed key.now).cipher.round_keys }
 {
-    let keyed = Serpent::new_from_slice(key);
-    let cipher = keyed.cipher;
-    let made = cipher.round_keys;
-    *round_keys = made;
-    keyed.number
+    let set_up = Serpent::new_from_slice(key);
+    let number = number_of(&set_up);
+    *round_keys = match set_up {
+        Ok(cipher) => cipher.round_keys,
+        Err(_) => [0u32; 132],
+    };
+    number
 }
 
 // One block enciphered.
@@ -45,7 +48,7 @@ pub fn timed_encrypt_blocks(
     ensures number { result ≡ blocks_number (length text.now) (length out.old) }
     ensures written { out.new ≡ left (blocks_number (length text.now) (length out.old)) (enciphered round_keys.now start.now text.now) out.old }
 {
-    chain::encrypt_blocks(round_keys, text, *start, out)
+    number_of(&chain::encrypt_blocks(round_keys, text, *start, out))
 }
 
 // A chain deciphered: 2 5.
@@ -58,5 +61,5 @@ pub fn timed_decrypt_blocks(
     ensures number { result ≡ blocks_number (length cipher.now) (length out.old) }
     ensures written { out.new ≡ left (blocks_number (length cipher.now) (length out.old)) (deciphered round_keys.now start.now cipher.now) out.old }
 {
-    chain::decrypt_blocks(round_keys, cipher, *start, out)
+    number_of(&chain::decrypt_blocks(round_keys, cipher, *start, out))
 }

@@ -1,28 +1,21 @@
 -- Words as bytes, and back.
 -- Assumes nothing.
-use mathlib.Core.Path.{◌≡◌, sym, ◌∙◌}
-use mathlib.Core.List.{List}
+use mathlib.Core.Path.{◌≡◌, refl, sym, ◌∙◌}
+use mathlib.Core.List.{List, [], ◌++◌}
 use Prim.Native.Nat.{ℕ, zero, suc, ◌+◌, ◌*◌, ◌/◌, ◌%◌, ◌^◌, ◌<◌}
-use native.Mathlib.Nat.{add-zero, add_comm, mod-lt, mod-eq_of_lt, div-one}
+use native.Mathlib.Nat.{add-zero, mod-lt, div-one}
 use native.Mathlib.Omega.{arith}
-use lib.Bits.{bit_or, or_shifted_r}
 use lib.Dec.{lit<}
 use lib.ListN.{get_or}
-use lib.Pow.{mod-pow-add}
 use lib.Seq.{ext_get_or}
 use Rattle.words.specs.Sized.{FourWords, Block, list_of}
-use Rattle.words.specs.Bytes.{word_of, word_at, words_of, byte_at, bytes_of}
+use Rattle.words.specs.Bytes.{word_of, word_at, words_of, le_byte, byte_at, bytes_of}
 use Rattle.words.specs.Inverse.{Inverse}
+use Rattle.std.specs.Int.{to_le_bytes}
+use Rattle.std.proofs.Common.{w32, append_assoc}
+use Rattle.std.proofs.lemmas.Nat.{from_le_bytes-to_le_bytes_4}
+use Rattle.std.proofs.lemmas.Slice.{overwrites}
 use Rattle.words.proofs.Lists.{length-list_of, get_or-list_of, sized_list_of, four_all}
-
--- ---- four bytes joined by shifts
-joined : (k v b : ℕ) → v < 2 ^ k → b * 2 ^ k < 2 ^ 32 → bit_or v (b * 2 ^ k % 2 ^ 32) ≡ v + b * 2 ^ k
-joined k v b h f = rw (mod-eq_of_lt f, or_shifted_r b k v h) (add_comm (b * 2 ^ k) v)
-
-pub four_bytes : (a b c d : ℕ) → a < 2 ^ 8 → b < 2 ^ 8 → c < 2 ^ 8 → d < 2 ^ 8
-    → bit_or (bit_or (bit_or a (b * 2 ^ 8 % 2 ^ 32)) (c * 2 ^ 16 % 2 ^ 32)) (d * 2 ^ 24 % 2 ^ 32) ≡ a + b * 2 ^ 8 + c * 2 ^ 16 + d * 2 ^ 24
-four_bytes a b c d ha hb hc hd =
-    rw (joined 8 a b (omega arith) (omega arith), joined 16 (a + b * 2 ^ 8) c (omega arith) (omega arith), joined 24 (a + b * 2 ^ 8 + c * 2 ^ 16) d (omega arith) (omega arith))
 
 -- ---- byte r of the word at p is the byte at p + r
 module _ (b : List ℕ) (small : (i : ℕ) → get_or b i 0 < 2 ^ 8) (p : ℕ) where
@@ -38,12 +31,37 @@ module _ (b : List ℕ) (small : (i : ℕ) → get_or b i 0 < 2 ^ 8) (p : ℕ) w
   word_byte (suc (suc (suc zero))) h = omega (arith, small p, small (p + 1), small (p + 2), small (p + 3))
   word_byte (suc (suc (suc (suc r)))) h = absurd (omega arith)
 
-sum_up : (a b c d p q r x : ℕ) → p ≡ b * 2 ^ 8 + a → q ≡ c * 2 ^ 16 + p → r ≡ d * 2 ^ 24 + q → r ≡ x → a + b * 2 ^ 8 + c * 2 ^ 16 + d * 2 ^ 24 ≡ x
-sum_up a b c d p q r x e f g h = omega arith
-
-pub word_back : (x : ℕ) → x < 2 ^ 32 → word_of (x / 2 ^ 0 % 2 ^ 8) (x / 2 ^ 8 % 2 ^ 8) (x / 2 ^ 16 % 2 ^ 8) (x / 2 ^ 24 % 2 ^ 8) ≡ x
+pub word_back : (x : ℕ) → x < 2 ^ 32
+    → word_of (x / 2 ^ 0 % 2 ^ 8) (x / 2 ^ 8 % 2 ^ 8) (x / 2 ^ 16 % 2 ^ 8) (x / 2 ^ 24 % 2 ^ 8) ≡ x
 unfolding word_of
-word_back x h = rw div-one (sum_up _ _ _ _ _ _ _ x (mod-pow-add x 8 8) (mod-pow-add x 8 16) (mod-pow-add x 8 24) (mod-eq_of_lt h))
+word_back x h = rw div-one (from_le_bytes-to_le_bytes_4 x h)
+
+-- ---- the bytes of no word, and of one more
+pub bytes_none : (w : List ℕ) → bytes_of w 0 ≡ []
+unfolding bytes_of list_of
+bytes_none w = refl
+
+module _ (w : List ℕ) (n : ℕ) where
+  byte_in : (i r : ℕ) → i ≡ 4 * n + r → r < 4 → byte_at w i ≡ le_byte (get_or w n 0) r
+  unfolding byte_at
+  byte_in i r e h =
+      let q : i / 4 ≡ n = omega arith in
+      let m : i % 4 ≡ r = omega arith in
+      rw (q, m)
+
+  pub bytes_more : bytes_of w (4 * (n + 1)) ≡ bytes_of w (4 * n) ++ to_le_bytes w32 (get_or w n 0)
+  unfolding bytes_of list_of
+  bytes_more =
+      let k = 4 * n in
+      let e : 4 * (n + 1) ≡ suc (suc (suc (suc k))) = omega arith in
+      let byte₀ = byte_in k 0 (omega arith) (lit< tt) in
+      let byte₁ = byte_in (suc k) 1 (omega arith) (lit< tt) in
+      let byte₂ = byte_in (suc (suc k)) 2 (omega arith) (lit< tt) in
+      let byte₃ = byte_in (suc (suc (suc k))) 3 (omega arith) (lit< tt) in
+      rw (e, byte₀, byte₁, byte₂, byte₃, div-one) (simp append_assoc)
+
+-- for a loop that puts the bytes of a word a turn
+pub ruleset word_by_word = (bytes_none, bytes_more, overwrites)
 
 -- ---- sixteen bytes and four words
 read_back : (b : List ℕ) → Block b → bytes_of (words_of b 4) 16 ≡ b

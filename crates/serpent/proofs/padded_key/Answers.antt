@@ -1,11 +1,12 @@
--- `serpent::padded_key` meets its contract: of a longer key the first 32 bytes are all that the padding takes. Assumes nothing.
-use mathlib.Core.Path.{◌∙◌}
-use native.Mathlib.Omega.{arith}
+-- `serpent::padded_key` meets its contract. Assumes nothing.
+use mathlib.Core.Path.{ap, ◌∙◌}
+use Prim.Native.Nat.{ℕ}
+use lib.ListN.{take}
+use Rattle.serpent.specs.Schedule.{padded}
 use Rattle.serpent.proofs.Padding.{padded_cut}
 use Rattle.serpent.proofs.padded_key.Goals as goal
 
-pub returns-then-source-gt32 : goal.returns-then-source-gt32
-returns-then-source-gt32 c = c.expand_key.ensures ∙ padded_cut _ (omega arith)
-
 pub returns : goal.returns
-returns c = c.expand_key-2.ensures
+returns c =
+    let s = c.args.source.now in
+    c.expand_key.ensures ∙ ap (λ (n : ℕ). padded (take n s)) c.min.ensures ∙ padded_cut s

@@ -1,21 +1,20 @@
--- `rounds::decrypt_words` meets its contract: after i turns what is left to do gives what deciphering gives of the first words. Assumes nothing.
-use mathlib.Core.Path.{◌≡◌, refl, ◌∙◌}
+-- `rounds::decrypt_words` meets its contract: what is left to do gives what deciphering gives. Assumes nothing.
+use mathlib.Core.Path.{◌≡◌, ◌∙◌}
+use Prim.Native.Nat.{◌+◌, ◌-◌}
 use native.Mathlib.Omega.{arith}
 use Rattle.serpent.specs.Block.{unrounds}
 use Rattle.fast.proofs.Groups.{unturn}
-use borrow.Author.Rules.{rules}
 use Rattle.fast.proofs.rounds.decrypt_words.Goals as goal
 
-pub loop-i-init : goal.loop-i-init
-loop-i-init c = (search rules, refl)
-
-pub loop-i-preserved : goal.loop-i-preserved
-loop-i-preserved c =
-    let at = c.loop-i in
-    (omega arith, unturn _ _ _ _ at.i (omega arith) c.uneighth-y.ensures c.unseven-z.ensures ∙ at.invariant.1)
+pub loop-t-preserved : goal.loop-t-preserved
+loop-t-preserved c =
+    let at = c.loop-t in
+    let e : at.t - 1 + 1 ≡ at.t = omega arith in
+    let turned = unturn _ _ _ _ (at.t - 1) (omega arith) c.uneighth-y.ensures c.unseven-z.ensures in
+    (omega arith, rw e at turned ∙ at.invariant.1)
 
 pub returns : goal.returns
 unfolding unrounds
 returns c =
-    let e : c.loop-i.i ≡ 4 = omega arith in
-    rw e at c.loop-i.invariant.1
+    let e : c.loop-t.t ≡ 0 = omega arith in
+    rw e at c.loop-t.invariant.1

@@ -1,4 +1,4 @@
--- Each turn goes on behind what was read, and no turn past the buffer.
+-- No turn reads past the buffer.
 use Rattle.std.proofs.Common.{◌-◌, ◌≤◌, length}
 use Rattle.gatelog.proofs.files.load.Given as goal
 

@@ -1,11 +1,6 @@
-use mathlib.Core.Path.{◌≡◌}
-use Prim.Native.Nat.{◌-◌, ◌≤◌}
-use lib.ListN.{length, take}
+use Rattle.std.proofs.Common.{◌≡◌, ◌*◌, length, take}
 use Rattle.words.specs.Bytes.{bytes_of}
 use Rattle.slices.proofs.parts.round_key_bytes.Given as goal
 
-abbrev pub invariant-loop-k : goal.invariant-loop-k
-invariant-loop-k l = (l.k ≤ 528) × (length l.bytes ≡ 528) × (take l.k l.bytes ≡ bytes_of l.round_keys l.k)
-
-abbrev pub decreases-loop-k : goal.decreases-loop-k
-decreases-loop-k l = 528 - l.k
+abbrev pub invariant-loop-i : goal.invariant-loop-i
+invariant-loop-i l = record { size : length l.bytes ≡ 528; written : take (4 * l.i) l.bytes ≡ bytes_of l.fn.round_keys (4 * l.i) }
