@@ -8,27 +8,27 @@ ghost use Rattle.answers.specs.Answers.{single_number, room_number, left};
 // Why an operation refuses. A host in C is told its number; 0 is for what is done.
 #[derive(Clone, Copy, Debug, PartialEq, Eq)]
 pub enum Refusal {
-    // the key is shorter than 16 or longer than 32 bytes
+    // The key is shorter than 16 or longer than 32 bytes.
     KeyLength = 1,
-    // the text or cipher bytes are not whole blocks; for a single block or event, not exactly 16 bytes
+    // The text or cipher bytes are not whole blocks; for a single block or event, not exactly 16 bytes.
     TextLength = 2,
-    // the start block is not exactly 16 bytes
+    // The start block is not exactly 16 bytes.
     StartLength = 3,
-    // there are more blocks than the limit
+    // There are more blocks than the limit.
     TooMany = 4,
-    // the output buffer is shorter than the answer
+    // The output buffer is shorter than the answer.
     OutShort = 5,
-    // the frame is shorter than its header, or its length field does not agree with it
+    // The frame is shorter than its header, or its length field does not agree with it.
     FrameLength = 6,
-    // the version byte is none that is known
+    // The version byte is none that is known.
     Version = 7,
-    // the box number, reduced by 8, is above 7
+    // The box number, reduced by 8, is above 7.
     NoBox = 8,
-    // the place or the window is beyond the frame's blocks
+    // The place or the window is beyond the frame's blocks.
     Beyond = 9,
-    // the event block is not readable
+    // The event block is not readable.
     NotReadable = 10,
-    // there is no readable event from the place on
+    // There is no readable event from the place on.
     NoEvent = 11,
 }
 

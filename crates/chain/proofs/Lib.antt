@@ -1,3 +1,4 @@
+pub mod Calls
 pub mod Xors
 pub mod Blocks
 pub mod Links

@@ -7,11 +7,12 @@ use native.Mathlib.Nat.{suc_inj, le_of_suc-le-suc}
 use native.Mathlib.Omega.{arith}
 use lib.Bits.{bit_xor, xor_lt}
 use lib.ListN.{length, get_or}
+use lib.Seq.{ext_get_or}
 use Rattle.words.specs.Sized.{Block}
 use Rattle.words.proofs.Xor as numbers
 use Rattle.chain.specs.Chain.{xor}
 
-pub get_or-xor : (a b : List ℕ) (j : ℕ) → j < length a → j < length b → bit_xor (get_or a j 0) (get_or b j 0) ≡ get_or (xor a b) j 0
+get_or-xor : (a b : List ℕ) (j : ℕ) → j < length a → j < length b → bit_xor (get_or a j 0) (get_or b j 0) ≡ get_or (xor a b) j 0
 unfolding xor
 get_or-xor [] b j h k = absurd (omega arith)
 get_or-xor (x ∷ a) [] j h k = absurd (omega arith)
@@ -23,6 +24,15 @@ unfolding xor
 length-xor [] b h = refl
 length-xor (x ∷ a) [] h = absurd (omega arith)
 length-xor (x ∷ a) (y ∷ b) h = ap suc (length-xor a b (suc_inj h))
+
+-- a list that has the XOR at each place is the XOR
+pub xor_each : (a b r : List ℕ) → length a ≡ length b → length r ≡ length a
+    → ((j : ℕ) → j < length a → get_or r j 0 ≡ bit_xor (get_or a j 0) (get_or b j 0)) → r ≡ xor a b
+xor_each a b r p q each =
+    let long = length-xor a b p in
+    ext_get_or 0 r (xor a b) (q ∙ sym long) λ j h.
+    let l : j < length a = omega arith in
+    each j l ∙ get_or-xor a b j l (omega arith)
 
 xor_small : (a b : List ℕ) → ((i : ℕ) → get_or a i 0 < 2 ^ 8) → ((i : ℕ) → get_or b i 0 < 2 ^ 8) → (i : ℕ) → get_or (xor a b) i 0 < 2 ^ 8
 unfolding xor

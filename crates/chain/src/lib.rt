@@ -8,12 +8,13 @@ ghost use Rattle.words.specs.Blocks.{block_at, put_at};
 ghost use Rattle.serpent.specs.Schedule.{schedule};
 ghost use Rattle.serpent.specs.Block.{encrypt_bytes, decrypt_bytes};
 ghost use Rattle.chain.specs.Chain.{xor};
-ghost use Rattle.chain.specs.Turns.{Onward};
+ghost use Rattle.chain.specs.Turns.{Among};
 ghost use Rattle.chain.specs.Slices.{enciphered, deciphered, blocks_number, lengths_number, chain_number, encrypted_chain, decrypted_chain};
 
 use answers::Refusal;
 use fast::{decrypt_block, decrypt_sixteen, encrypt_block};
 use serpent::Serpent;
+use std::array;
 use words::blocks::{block_at, put_block};
 
 // The most blocks of a chain.
@@ -22,11 +23,7 @@ pub const MAX_BLOCKS: usize = 256;
 fn xor_block(a: [u8; 16], b: [u8; 16]) -> [u8; 16]
     ensures { result ≡ xor a b }
 {
-    let mut r = [0u8; 16];
-    for j in 0..16 {
-        r[j] = a[j] ^ b[j];
-    }
-    r
+    array::from_fn(|j| a[j] ^ b[j])
 }
 
 // One link of the chain: a block and the cipher block before it.
@@ -42,41 +39,25 @@ pub fn decrypt_link(round_keys: &[u32; 132], cipher: [u8; 16], before: [u8; 16])
     xor_block(decrypt_block(round_keys, cipher), before)
 }
 
-// Puts the text at place i: `deciphered` XOR the cipher block before it. It answers the cipher block at place i, to which
-// the next text is chained.
-fn put_text(
-    deciphered: [u8; 16],
-    before: [u8; 16],
-    cipher: &[u8],
-    i: usize,
-    out: &mut [u8],
-) -> [u8; 16]
-    requires { i * 16 + 16 ≤ length cipher.now }
-    ensures next { result ≡ block_at cipher.now (i * 16) }
-    ensures put { out.new ≡ put_at out.old (i * 16) (xor deciphered before) }
-{
-    let block = block_at(cipher, i * 16);
-    let text = xor_block(deciphered, before);
-    put_block(text, out, i * 16);
-    block
-}
-
-// Puts the sixteen texts from place 16 s on. It answers the cipher block that the next text is chained to.
+// Puts the texts of the sixteen blocks from place 16 s on. It answers the block that the next text is chained to.
 fn put_sixteen(
     round_keys: &[u32; 132],
-    cipher: &[u8],
+    sixteen: &[u8; 256],
     start: [u8; 16],
     s: usize,
     out: &mut [u8],
 ) -> [u8; 16]
-    requires { (s * 256 + 256 ≤ length cipher.now) × (length cipher.now ≤ length out.old) }
-    ensures { Onward (decrypt_bytes round_keys.now) cipher.now out.old start (s * 16) out.new result (s * 16 + 16) }
+    requires { s * 256 + 256 ≤ length out.old }
+    ensures { Among (decrypt_bytes round_keys.now) sixteen.now s out.old start out.new result 16 }
 {
-    let sixteen = decrypt_sixteen(round_keys, &cipher[s * 256..s * 256 + 256]);
+    let deciphered = decrypt_sixteen(round_keys, sixteen);
+    let (texts, _) = deciphered.as_chunks();
+    let (blocks, _) = sixteen.as_chunks();
     let mut before = start;
-    for n in 0..16 {
-        let next = put_text(block_at(&sixteen, n * 16), before, cipher, s * 16 + n, out);
-        before = next;
+    for (n, block) in blocks.iter().enumerate() {
+        let text = xor_block(texts[n], before);
+        put_block(text, out, (s * 16 + n) * 16);
+        before = *block;
     }
     before
 }
@@ -99,9 +80,9 @@ impl Way for Enciphering {
 
     fn chain(round_keys: &[u32; 132], text: &[u8], start: [u8; 16], out: &mut [u8]) {
         let mut before = start;
-        for i in 0..text.len() / 16 {
-            let block = block_at(text, i * 16);
-            let cipher = encrypt_link(round_keys, block, before);
+        let (blocks, _) = text.as_chunks();
+        for (i, block) in blocks.iter().enumerate() {
+            let cipher = encrypt_link(round_keys, *block, before);
             put_block(cipher, out, i * 16);
             before = cipher;
         }
@@ -113,16 +94,17 @@ impl Way for Deciphering {
 
     // Sixteen blocks at a time, and those that are left one at a time.
     fn chain(round_keys: &[u32; 132], cipher: &[u8], start: [u8; 16], out: &mut [u8]) {
-        let blocks = cipher.len() / 16;
         let mut before = start;
-        for s in 0..blocks / 16 {
-            let next = put_sixteen(round_keys, cipher, before, s, out);
+        let (sixteens, rest) = cipher.as_chunks();
+        for (s, sixteen) in sixteens.iter().enumerate() {
+            let next = put_sixteen(round_keys, sixteen, before, s, out);
             before = next;
         }
-        for i in blocks / 16 * 16..blocks {
-            let text = decrypt_block(round_keys, block_at(cipher, i * 16));
-            let next = put_text(text, before, cipher, i, out);
-            before = next;
+        let (left, _) = rest.as_chunks();
+        for (i, block) in left.iter().enumerate() {
+            let text = decrypt_link(round_keys, *block, before);
+            put_block(text, out, (sixteens.len() * 16 + i) * 16);
+            before = *block;
         }
     }
 }

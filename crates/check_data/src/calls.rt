@@ -74,11 +74,11 @@ pub fn operation_of(name: &str) -> Option<(Operation, &'static [Field])> {
 // Why a call does not do its work.
 #[derive(Clone, Copy, Debug, PartialEq, Eq)]
 pub enum Failure {
-    // the operation refuses
+    // The operation refuses.
     Refused(Refusal),
-    // the way back does not lead to what it began with
+    // The way back does not lead to what it began with.
     NotBack,
-    // two operations do not agree on what they answer
+    // Two operations do not agree on what they answer.
     TwoAnswers,
 }
 

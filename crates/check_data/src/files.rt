@@ -40,6 +40,10 @@ impl fmt::Display for Counts {
     }
 }
 
+fn is_newline(byte: &u8) -> bool {
+    *byte == b'\n'
+}
+
 // Says which line is not right, and its operation.
 fn tell<W: Write>(
     to: &mut W,
@@ -62,7 +66,8 @@ fn check_lines<W: Write>(
     text: &[u8],
 ) -> io::Result<Counts> {
     let mut counts = Counts::default();
-    for (place, line) in text.split(|byte| *byte == b'\n').enumerate() {
+    for (place, line) in text.split_inclusive(is_newline).enumerate() {
+        let line = line.strip_suffix(b"\n").unwrap_or(line);
         if is_comment(line) {
             continue;
         }
@@ -76,10 +81,9 @@ fn check_lines<W: Write>(
 }
 
 fn check_file<R: Files + AllocGlobal, W: Write>(rt: &R, to: &mut W, name: &[u8]) -> io::Result<()> {
-    let counts = match load(rt, name, FILE)? {
-        Some(text) => check_lines(rt.alloc(), to, name, &text)?,
-        None => Counts::default(),
-    };
+    let mut room = [0u8; FILE];
+    let size = load(rt, name, &mut room);
+    let counts = check_lines(rt.alloc(), to, name, &room[..size])?;
     to.write_all(name)?;
     if counts.lines == 0 {
         return writeln!(to, ": cannot be read, or has no line");
@@ -93,11 +97,13 @@ pub fn check_list<R: Files + AllocGlobal, W: Write>(
     to: &mut W,
     list: &[u8],
 ) -> io::Result<()> {
-    let Some(names) = load(rt, list, LIST)? else {
+    let mut room = [0u8; LIST];
+    let size = load(rt, list, &mut room);
+    if size == 0 {
         return writeln!(to, "there is no list of files");
-    };
-    for name in names.split(|byte| *byte == b'\n') {
-        check_file(rt, to, name)?;
+    }
+    for name in room[..size].split_inclusive(is_newline) {
+        check_file(rt, to, name.strip_suffix(b"\n").unwrap_or(name))?;
     }
     Ok(())
 }

@@ -1,9 +1,10 @@
 // The lines of a file.
-ghost use Rattle.std.specs.Prelude.{◌≡◌, ◌<◌, eqb, get_or, IfOk, IfSome, vec_len};
+ghost use Rattle.std.specs.Prelude.{◌≡◌, eqb, get_or};
+ghost use Rattle.std.specs.Counts.{IsPrefixLen};
 
-use std::io::{ErrorKind, Read};
+use std::io::Read;
 use std::rt::Files;
-use std::{fs, io, str};
+use std::{fs, str};
 
 // A line that begins with a number sign.
 pub fn is_comment(line: &[u8]) -> bool
@@ -12,28 +13,34 @@ pub fn is_comment(line: &[u8]) -> bool
     line.starts_with(b"#")
 }
 
-// The text of a file, without the newline at its end. None where the file cannot be opened, is empty, or has `most`
-// bytes or more. A read that fails ends the text.
-pub fn load<R: Files + Alloc>(rt: &R, name: &[u8], most: usize) -> io::Result<Option<Vec<u8, R::A>>>
-    ensures { IfOk result (λ text. IfSome text (λ bytes. vec_len bytes < most)) }
+// Reads until the buffer is full, the input ends or a read fails, and answers how many bytes there are. Of std's
+// methods `read_exact` loses the count, and the others need an allocator.
+fn read_full<F: Read>(file: &mut F, buf: &mut [u8]) -> usize
+    ensures { IsPrefixLen result buf.new }
+{
+    let mut size = 0;
+    while size < buf.len() {
+        match file.read(&mut buf[size..]) {
+            Ok(0) | Err(_) => break,
+            Ok(more) => size += more,
+        }
+    }
+    size
+}
+
+// How much of a file is in the buffer; nothing where the file is missing, empty or too long.
+pub fn load<R: Files>(rt: &R, name: &[u8], buf: &mut [u8]) -> usize
+    ensures { IsPrefixLen result buf.new }
 {
     let Ok(path) = str::from_utf8(name) else {
-        return Ok(None);
+        return 0;
     };
-    let Ok(file) = fs::open(rt, path) else {
-        return Ok(None);
+    let Ok(mut file) = fs::open(rt, path) else {
+        return 0;
     };
-    let mut text = Vec::new(rt.alloc());
-    if let Err(error) = file.take(most as u64).read_to_end(&mut text)
-        && error.kind() == ErrorKind::OutOfMemory
-    {
-        return Err(error);
+    let size = read_full(&mut file, buf);
+    if size == buf.len() {
+        return 0;
     }
-    if text.is_empty() || text.len() >= most {
-        return Ok(None);
-    }
-    if text.ends_with(b"\n") {
-        text.pop();
-    }
-    Ok(Some(text))
+    size
 }

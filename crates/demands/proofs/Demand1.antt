@@ -12,7 +12,7 @@ use lib.Seq.{length-take-le}
 use Rattle.std.specs.Prelude.{Result, Ok, Err, IfOk}
 use Rattle.answers.specs.Numbers.{number}
 use Rattle.answers.specs.declared.Refusal.{Refusal}
-use Rattle.answers.proofs.Numbers.{same_answer, same_done}
+use Rattle.answers.proofs.Numbers.{same_reason, same_answer, same_done}
 use Rattle.answers.proofs.Answers.{done, refused, left_refused, left_past, short, roomy}
 use Rattle.words.specs.Bytes.{bytes_of}
 use Rattle.words.proofs.Lists.{length-list_of}
@@ -100,10 +100,12 @@ use Rattle.frame.proofs.parts.frame_start.Reads as the_frame_start
 use Rattle.frame.proofs.parts.frame_place.Reads as the_frame_place
 use Rattle.frame.proofs.parts.frame_length.Reads as the_frame_length
 use Rattle.frame.proofs.window.read_window.Reads as the_read_window
+use Rattle.search.proofs.Missed.refusal.Reads as the_refusal
+use Rattle.search.proofs.Missed.tries.Reads as the_tries
 use Rattle.search.proofs.search.Reads as the_search
 
 -- what is seen of a frame that is opened: its bytes, or why not
-abbrev opened_bytes : Result Frame Refusal → Result (List ℕ) Refusal
+abbrev pub opened_bytes : Result Frame Refusal → Result (List ℕ) Refusal
 opened_bytes (Ok opened) = Ok opened.bytes.now
 opened_bytes (Err refusal) = Err refusal
 
@@ -277,6 +279,8 @@ pub record OneAnswer : Type 0 where
   pub read_window : OneResult the_read_window.Post
   pub read_window_out : Determines the_read_window.Post (λ κs x s. s.1.1.1.1.0.now)
   pub search : OneResult the_search.Post
+  pub refusal : OneResult the_refusal.Post
+  pub tries : OneResult the_tries.Post
 
 bytes_size : (words : List ℕ) (n : ℕ) → length (bytes_of words n) ≡ n
 unfolding bytes_of
@@ -482,4 +486,6 @@ one_answer = record {
   read_window = λ κs a x y s t p q. same_done x y p.0 q.0;
   read_window_out = λ κs a x y s t p q. once p.1 q.1;
   search = λ κs a x y s t p q. same_told x y (once p.0 q.0) p.1 q.1;
+  refusal = λ κs a x y s t p q. same_reason x y (once p q);
+  tries = λ κs a x y s t p q. once p q;
 }

@@ -13,7 +13,6 @@ use Rattle.std.proofs.lemmas.Grind.{elements}
 use Rattle.words.specs.Blocks.{block_at}
 use Rattle.words.specs.Bytes.{words_of, bytes_of}
 use Rattle.words.proofs.Lists.{four_all}
-use Rattle.words.proofs.Places.{block_there}
 use Rattle.serpent.specs.Block.{decrypt_words, decrypt_bytes}
 use Rattle.fast.specs.Lanes.{lane, put_lane, EachLane, Lanes, Loaded, lane_bytes, decrypt_each}
 use Rattle.serpent.proofs.Lengths.{decrypted_sixteen}
@@ -113,7 +112,7 @@ length-each ks bytes (suc n) =
     over : (n : ℕ) → n * 16 + 16 ≡ suc n * 16
     over n = omega arith
 
-each_at : (ks bytes : List ℕ) (n j : ℕ) → j < n → take 16 (drop (j * 16) (decrypt_each ks n bytes)) ≡ decrypt_bytes ks (block_at bytes (j * 16))
+pub each_at : (ks bytes : List ℕ) (n j : ℕ) → j < n → take 16 (drop (j * 16) (decrypt_each ks n bytes)) ≡ decrypt_bytes ks (block_at bytes (j * 16))
 unfolding decrypt_each
 each_at ks bytes zero j h = absurd (omega arith)
 each_at ks bytes (suc n) j h = by (each_at ks bytes n j) (dec_lt j n)
@@ -130,6 +129,3 @@ each_at ks bytes (suc n) j h = by (each_at ks bytes n j) (dec_lt j n)
     by earlier (no l) =
         let e : j ≡ n = omega arith in
         rw e (ap (take 16) (drop_at (decrypt_each ks n bytes) _ (n * 16) long) ∙ take_all 16 _ (omega (arith, decrypted_sixteen ks (block_at bytes (n * 16)))))
-
-pub each_there : (ks bytes : List ℕ) (n j : ℕ) → j < n → block_at (decrypt_each ks n bytes) (j * 16) ≡ decrypt_bytes ks (block_at bytes (j * 16))
-each_there ks bytes n j h = sym (block_there (decrypt_each ks n bytes) (j * 16) (omega (arith, length-each ks bytes n))) ∙ each_at ks bytes n j h

@@ -8,8 +8,9 @@ use lib.ListN.{length}
 use Rattle.words.specs.Sized.{four}
 use Rattle.serpent.specs.Block.{unround, unrounds, decrypt_words}
 use Rattle.fast.specs.Turns.{unlast, unmixed, unrounds_from}
-use Rattle.fast.specs.Lanes.{lane, Lanes}
+use Rattle.fast.specs.Lanes.{lane, put_lane, Lanes}
 use Rattle.fast.proofs.Groups.{two, unrounds_join, unrounds_below}
+use Rattle.fast.proofs.Sixteen.{Going, next_lane}
 use Rattle.fast.proofs.Unmixed.{undoes}
 
 -- round u and the one below it undone, by boxes m and n
@@ -19,6 +20,13 @@ pub pair_undone : (ks : List ℕ) (u i m n : ℕ) {upper lower : List ℕ} (x : 
 pair_undone ks u i m n {upper} x e f g up low =
     let first : unmixed m upper x ≡ unround ks (i + 1) x = undoes ks u m x f up ∙ ap (λ (k : ℕ). unround ks k x) e in
     undoes ks i n (unmixed m upper x) g low ∙ ap (unround ks i) first ∙ two ks i x
+
+-- round u and the one below it undone on the next lane, by boxes m and n
+pub next_pair : (ks : List ℕ) (u i m n : ℕ) {w o upper lower : List ℕ} {j : ℕ} (x y z o' : List ℕ) → u ≡ i + 1 → m % 8 ≡ u % 8 → n % 8 ≡ i % 8
+    → Going (λ a b. b ≡ unrounds_from ks i 2 a) w o j → j < 16 → length z ≡ 4 → upper ≡ four ks (4 * u) → lower ≡ four ks (4 * i) → x ≡ lane o j
+    → y ≡ unmixed m upper x → z ≡ unmixed n lower y → o' ≡ put_lane o j z → Going (λ a b. b ≡ unrounds_from ks i 2 a) w o' (j + 1)
+next_pair ks u i m n {lower = lower} x y z o' e f g going l size up low ex ey ez eo =
+    next_lane _ x z o' going l size ex (ez ∙ ap (unmixed n lower) ey ∙ pair_undone ks u i m n x e f g up low) eo
 
 -- three pairs of rounds are six
 pub three_pairs : (ks : List ℕ) (t : ℕ) {w x y z : List ℕ} → Lanes (unrounds_from ks (8 * t + 4) 2) w x → Lanes (unrounds_from ks (8 * t + 2) 2) x y

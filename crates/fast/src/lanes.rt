@@ -1,5 +1,5 @@
 // Sixteen blocks side by side: lane j is words j, j + 16, j + 32 and j + 48, so that one step does the same to all.
-ghost use Rattle.std.specs.Prelude.{◌≡◌, ℕ, ◌+◌, ◌*◌, ◌<◌, ◌≤◌, length};
+ghost use Rattle.std.specs.Prelude.{◌≡◌, ◌+◌, ◌*◌, ◌<◌};
 ghost use Rattle.serpent.specs.Block.{unround, decrypt_words};
 ghost use Rattle.fast.specs.Turns.{unlast, unmixed, unmixed_last, unrounds_from};
 ghost use Rattle.fast.specs.Lanes.{lane, put_lane, EachLane, Lanes, Loaded, lane_bytes};
@@ -103,6 +103,7 @@ fn undo_six(keys: &[u32; 132], t: usize, w: &mut [u32; 64])
     undo_pair::<1, 0>(keys, t, w);
 }
 
+// The 32 rounds undone on each lane.
 pub fn decrypt_each(keys: &[u32; 132], w: &mut [u32; 64])
     ensures { Lanes (decrypt_words keys.now) w.old w.new }
 {

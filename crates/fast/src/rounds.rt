@@ -1,4 +1,5 @@
-// Eight rounds a turn, each with its box written out: nothing is left to choose while a block goes through.
+// Eight rounds a turn, written out: the box of each is known when it is compiled, so nothing is left to choose while a
+// block goes through.
 ghost use Rattle.std.specs.Prelude.{◌≡◌, cond, ◌+◌, ◌*◌, ◌≤◌, ◌<◌, eqb};
 ghost use Rattle.words.specs.Sized.{four};
 ghost use Rattle.serpent.specs.Block.{round, unround, encrypt_words, decrypt_words};
@@ -65,6 +66,7 @@ fn eighth(keys: &[u32; 132], t: usize, b: Words) -> Words
 }
 
 #[tactic(auto, using(crate::proofs::Groups::turn), unfolding(serpent::specs::Block::rounds))]
+// The 32 rounds, and the 32 undone.
 pub fn encrypt_words(keys: &[u32; 132], b: Words) -> Words
     ensures { result ≡ encrypt_words keys.now b }
 {

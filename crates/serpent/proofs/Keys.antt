@@ -1,17 +1,16 @@
 -- The prekeys and the round keys, stored one after the other.
 -- Assumes nothing.
-use mathlib.Core.Path.{◌≡◌, refl, ap, ◌∙◌}
+use mathlib.Core.Path.{◌≡◌, refl, sym, ap, ◌∙◌}
 use mathlib.Core.List.{List, ◌++◌, append_assoc}
-use Prim.Native.Nat.{ℕ, zero, suc, ◌+◌, ◌*◌, ◌^◌, ◌≤◌, ◌<◌}
+use Prim.Native.Nat.{ℕ, zero, suc, ◌+◌, ◌*◌, ◌^◌, ◌<◌}
 use native.Mathlib.Numerals.{add-one}
 use native.Mathlib.Omega.{arith}
 use lib.Dec.{lit<}
-use lib.ListN.{length, take, set, length-set}
-use lib.Seq.{get_or-take}
+use lib.ListN.{length, take, get_or, set}
+use lib.Seq.{get_or-take, take-suc, take_all}
 use Rattle.words.specs.Sized.{Sized}
-use Rattle.words.proofs.Lists.{filled, sized_append, four_all}
+use Rattle.words.proofs.Lists.{filled, sized_append}
 use Rattle.bitslice.proofs.Boxes.{box_words_lem}
-use Rattle.serpent.specs.Words.{stored}
 use Rattle.serpent.specs.Turns.{KeysUpTo}
 use Rattle.serpent.specs.Schedule.{prekey, prekeys, round_key, round_keys, schedule}
 
@@ -25,19 +24,20 @@ pub prekeys_more : (s w : List ℕ) (i v : ℕ) → i + 8 < length w → take (i
 unfolding prekeys
 prekeys_more s w i v b h e = rw (filled w (i + 8) (i + 1 + 8) v (omega arith) b h, add-one, ← h, prekey_early w (i + 8) i (omega arith), e)
 
--- four words stored next
-filled_four : (l : List ℕ) {xs : List ℕ} (n m : ℕ) (w : List ℕ) → m ≡ n + 4 → n + 4 ≤ length l → length w ≡ 4 → take n l ≡ xs → take m (stored l n w) ≡ xs ++ w
-filled_four l {xs} n m w e b f h =
-    filled _ (n + 3) m _ (omega arith) (simp length-set (omega arith))
-    (filled _ (n + 2) (n + 3) _ (omega arith) (simp length-set (omega arith))
-    (filled _ (n + 1) (n + 2) _ (omega arith) (simp length-set (omega arith))
-    (filled l n (n + 1) _ refl (omega arith) h)))
-    ∙ simp append_assoc (ap (λ (t : List ℕ). xs ++ t) (four_all w f))
+-- one word more of the next round key
+pub round_key_word : (k xs : List ℕ) (n j : ℕ) (rk : List ℕ) → n + j < length k → j < length rk → take (n + j) k ≡ xs ++ take j rk
+    → take (n + (j + 1)) (set k (n + j) (get_or rk j 0)) ≡ xs ++ take (j + 1) rk
+round_key_word k xs n j rk b l h =
+    filled k (n + j) (n + (j + 1)) _ (omega arith) b h
+    ∙ append_assoc xs (take j rk) _ ∙ ap (λ t. xs ++ t) (sym (ap (λ m. take m rk) (add-one j) ∙ take-suc rk j 0 l))
 
--- the next round key stored
-pub round_keys_more : (w k : List ℕ) (i : ℕ) (rk : List ℕ) → 4 * i + 4 ≤ length k → length rk ≡ 4 → take (4 * i) k ≡ round_keys w i → rk ≡ round_key w i → take (4 * (i + 1)) (stored k (4 * i) rk) ≡ round_keys w (i + 1)
+-- all four
+pub round_keys_more : (w k : List ℕ) (i : ℕ) (rk : List ℕ) → length rk ≡ 4 → take (4 * i + 4) k ≡ round_keys w i ++ take 4 rk → rk ≡ round_key w i
+    → take (4 * (i + 1)) k ≡ round_keys w (i + 1)
 unfolding round_keys
-round_keys_more w k i rk b f h e = filled_four k (4 * i) (4 * (i + 1)) rk (omega arith) b f h ∙ rw (add-one, e)
+round_keys_more w k i rk l h e =
+    let next : 4 * (i + 1) ≡ 4 * i + 4 = omega arith in
+    rw (next, add-one, h) (ap (λ t. round_keys w i ++ t) (take_all 4 rk (omega arith) ∙ e))
 
 -- round keys up to a place that is written in another way
 pub up_to : {w k : List ℕ} {i j : ℕ} → i ≡ j → KeysUpTo w k i → KeysUpTo w k j

@@ -1,4 +1,3 @@
-pub mod Words
 pub mod Schedule
 pub mod Block
 pub mod Keys

@@ -4,9 +4,8 @@
 ghost use Rattle.std.specs.Prelude.{◌≡◌, ◌+◌, ◌*◌, ◌%◌, ◌≤◌, ◌<◌, IfOk, length};
 ghost use Rattle.answers.specs.Numbers.{number};
 ghost use Rattle.words.specs.Sized.{four};
-ghost use Rattle.words.specs.Bytes.{word_at, words_of};
+ghost use Rattle.words.specs.Bytes.{words_of};
 ghost use Rattle.bitslice.specs.Boxes.{box_words, box_inv_words};
-ghost use Rattle.serpent.specs.Words.{stored};
 ghost use Rattle.serpent.specs.Schedule.{padded, prekey, prekeys, box_of_key, round_keys, schedule};
 ghost use Rattle.serpent.specs.Block.{mix, encrypt_bytes, decrypt_bytes};
 ghost use Rattle.serpent.specs.Keys.{key_number};
@@ -15,6 +14,7 @@ ghost use Rattle.serpent.specs.Turns.{KeysUpTo};
 use answers::Refusal;
 use bitslice::{linear_transform, linear_transform_inv, round_box, round_box_inv};
 use state::{read_words, write_words, xor};
+use std::array;
 use words::{Words, from_le_bytes, rotate_left};
 
 // The 33 round keys, one after the other.
@@ -58,22 +58,12 @@ pub fn s_box_inv(index: usize, words: Words) -> Words
     round_box_inv(index, words)
 }
 
-// Four words from place p on, read and stored.
+// Four words from place p on.
 fn four_words(w: &[u32], p: usize) -> Words
     requires { p + 4 ≤ length w.now }
     ensures { result ≡ four w.now p }
 {
-    [w[p], w[p + 1], w[p + 2], w[p + 3]]
-}
-
-fn store_words(k: &mut [u32; 132], p: usize, w: Words)
-    requires { p + 4 ≤ 132 }
-    ensures { k.new ≡ stored k.old p w }
-{
-    k[p] = w[0];
-    k[p + 1] = w[1];
-    k[p + 2] = w[2];
-    k[p + 3] = w[3];
+    array::from_fn(|j| w[p + j])
 }
 
 // w(i), from the list that holds w(-8) to w(i - 1).
@@ -87,22 +77,14 @@ fn next_prekey(words: &[u32; 140], i: usize) -> u32
     )
 }
 
-// Word i of the padded key, the lowest byte first.
-fn key_word(key: &[u8; 32], i: usize) -> u32
-    requires { i < 8 }
-    ensures { result ≡ word_at key.now (4 * i) }
-{
-    let p = 4 * i;
-    from_le_bytes([key[p], key[p + 1], key[p + 2], key[p + 3]])
-}
-
 // The eight key words, and the 132 prekeys after them.
 fn make_prekeys(key: [u8; 32]) -> [u32; 140]
     ensures { result ≡ prekeys (words_of key 8) 132 }
 {
     let mut words = [0u32; 140];
-    for i in 0..8 {
-        words[i] = key_word(&key, i);
+    let (chunks, _) = key.as_chunks();
+    for (i, bytes) in chunks.iter().enumerate() {
+        words[i] = from_le_bytes(*bytes);
     }
     for i in 0..132 {
         words[i + 8] = next_prekey(&words, i);
@@ -117,7 +99,9 @@ fn put_round_key(words: &[u32; 140], i: usize, index: usize, k: &mut [u32; 132])
 {
     let s = four_words(words, 4 * i + 8);
     let output = s_box(index, s);
-    store_words(k, 4 * i, output);
+    for (j, word) in output.iter().enumerate() {
+        k[4 * i + j] = *word;
+    }
 }
 
 // Round keys 8 t to 8 t + 7, with the numbers of their boxes written out: then nothing is left to choose.

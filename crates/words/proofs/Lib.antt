@@ -7,3 +7,4 @@ pub mod Bytes
 pub mod Places
 pub mod Inverse
 pub mod Filled
+pub mod Chunks

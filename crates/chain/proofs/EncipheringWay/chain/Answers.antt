@@ -1,10 +1,10 @@
 -- `Enciphering::chain` meets its contract: after i turns `before` is the last cipher block made, the start block before the first, and the first i cipher blocks stand in front of the buffer.
-use Prim.Native.Nat.{ℕ, ◌/◌}
-use mathlib.Core.Path.{◌≡◌, refl, sym, ap₂, ◌∙◌}
-use mathlib.Core.List.{List}
+use Prim.Native.Nat.{ℕ, ◌/◌, ◌<◌}
+use mathlib.Core.Path.{◌≡◌, refl, sym, ap, ap₂, ◌∙◌}
+use mathlib.Core.List.{List, []}
 use native.Mathlib.Omega.{arith}
-use lib.ListN.{length}
-use Rattle.words.proofs.Places.{block_there}
+use lib.ListN.{length, get_or}
+use Rattle.words.proofs.Chunks.{chunk_at}
 use Rattle.serpent.specs.Block.{encrypt_bytes}
 use Rattle.chain.specs.Chain.{xor, last_or, blocks, encipher, join}
 use Rattle.chain.specs.Slices.{enciphered}
@@ -16,7 +16,7 @@ use Rattle.chain.proofs.EncipheringWay.chain.Goals as goal
 
 pub loop-i-init : goal.loop-i-init
 unfolding last_or blocks join encipher
-loop-i-init c = (omega arith, refl, filled_none _)
+loop-i-init c = (refl, filled_none _)
 
 pub loop-i-preserved : goal.loop-i-preserved
 loop-i-preserved c =
@@ -25,18 +25,19 @@ loop-i-preserved c =
     let E = encrypt_bytes a.round_keys.now in
     let cipher = c.encrypt_link-cipher.result in
     let size : length cipher ≡ 16 = c.encrypt_link-cipher.type_inv.1.0.1 in
-    let here : c.block_at-block.result ≡ block i a.text.now = c.block_at-block.ensures ∙ sym (block_there a.text.now _ (omega arith)) in
+    let there : i < length a.text.now / 16 = omega (arith, c.as_chunks.ensures.front_len, c.loop-i-test.true) in
+    let here : get_or c.as_chunks.result.0.now i [] ≡ block i a.text.now =
+    ap (λ cs. get_or cs i []) c.as_chunks.ensures.front ∙ chunk_at 16 _ i a.text.now [] there in
     let same : cipher ≡ next E a.start i a.text.now =
-    c.encrypt_link-cipher.ensures ∙ ap₂ (λ (x y : List ℕ). E (xor x y)) here c.loop-i.invariant.1 in (
-      omega arith,
+    c.encrypt_link-cipher.ensures ∙ ap₂ (λ (x y : List ℕ). E (xor x y)) here c.loop-i.invariant.0 in (
       same ∙ sym (last_next E a.start i a.text.now),
       rw (c.put_block.ensures, encipher_more E a.start i a.text.now, ← same)
-          (filled_more a.out.now c.loop-i.out i _ cipher c.loop-i.invariant.2 size (omega (arith, c.requires))),
+          (filled_more a.out.now c.loop-i.out i _ cipher c.loop-i.invariant.1 size (omega (arith, c.requires, c.loop-i.invariant.1.size))),
     )
 
 pub returns : goal.returns
 unfolding enciphered
 returns c =
     let a = c.args in
-    let all : c.loop-i.i ≡ length a.text.now / 16 = omega arith in
-    filled_all a.out.now c.loop-i.out (length a.text.now / 16) _ (rw all at c.loop-i.invariant.2) (omega arith)
+    let all : c.loop-i.i ≡ length a.text.now / 16 = omega (arith, c.as_chunks.ensures.front_len) in
+    filled_all a.out.now c.loop-i.out (length a.text.now / 16) _ (rw all at c.loop-i.invariant.1) (omega (arith, c.requires, c.loop-i.invariant.1.size))

@@ -1,0 +1,9 @@
+-- No turn reads past the buffer.
+use Rattle.std.proofs.Common.{◌-◌, ◌≤◌, length}
+use Rattle.check_text.proofs.lines.read_full.Given as goal
+
+abbrev pub invariant-loop-size : goal.invariant-loop-size
+invariant-loop-size g l = l.size ≤ length l.buf
+
+abbrev pub decreases-loop-size : goal.decreases-loop-size
+decreases-loop-size g l = length l.initial.buf - l.size

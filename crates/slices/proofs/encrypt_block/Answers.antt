@@ -1,0 +1,5 @@
+-- `slices::encrypt_block` meets its contract: what is written is what the call writes. Assumes nothing.
+use Rattle.slices.proofs.encrypt_block.Goals as goal
+
+pub returns-clause-written : goal.returns-clause-written
+returns-clause-written c = c.under_key.ensures.written
