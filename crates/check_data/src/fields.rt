@@ -1,7 +1,7 @@
 // The fields of a line: numbers, and bytes in pieces that a comma parts.
 ghost use Rattle.std.specs.Prelude.{◌≤◌, IfOk, vec_len};
 
-use hex::{FromHex, FromHexError};
+use check_text::hex;
 use std::alloc::{AllocError, Global};
 use std::num::ParseIntError;
 use std::str::Utf8Error;
@@ -19,15 +19,6 @@ pub enum LineError {
 impl From<AllocError> for LineError {
     fn from(_error: AllocError) -> LineError {
         LineError::OutOfMemory
-    }
-}
-
-impl From<FromHexError> for LineError {
-    fn from(error: FromHexError) -> LineError {
-        match error {
-            FromHexError::OutOfMemory => LineError::OutOfMemory,
-            _ => LineError::Malformed,
-        }
     }
 }
 
@@ -54,11 +45,21 @@ pub fn number_of(field: &str) -> Result<u64, LineError> {
 // A byte so many times.
 fn repeated(alloc: Global, times: &str, digits: &str) -> Result<Vec<u8>, LineError> {
     let times = number_of(times)?;
-    let [byte] = <[u8; 1] as FromHex>::from_hex(digits)?;
+    let [high, low] = digits.as_bytes() else {
+        return Err(LineError::Malformed);
+    };
+    let byte = hex::byte_of(*high, *low).ok_or(LineError::Malformed)?;
     if times > MOST as u64 {
         return Err(LineError::Malformed);
     }
     Ok(vec![in alloc; byte; times as usize]?)
+}
+
+// The bytes that digits spell, the last one first where `reversed`.
+fn spelt(alloc: Global, digits: &str, reversed: bool) -> Result<Vec<u8>, LineError> {
+    let mut bytes = vec![in alloc; 0; digits.len() / 2]?;
+    hex::bytes_of(digits.as_bytes(), reversed, &mut bytes).ok_or(LineError::Malformed)?;
+    Ok(bytes)
 }
 
 // A piece of a field: `N*BB`, a byte so many times; `+N` or `-N`, a number with its sign as eight bytes in two's
@@ -76,11 +77,9 @@ fn piece_of(alloc: Global, piece: &str) -> Result<Vec<u8>, LineError> {
         return Ok(value.to_be_bytes().to_vec(alloc)?);
     }
     if let Some(digits) = piece.strip_prefix('~') {
-        let mut bytes = hex::decode(alloc, digits)?;
-        bytes.reverse();
-        return Ok(bytes);
+        return spelt(alloc, digits, true);
     }
-    Ok(hex::decode(alloc, piece)?)
+    spelt(alloc, piece, false)
 }
 
 // The bytes of a field. No piece of it is empty.

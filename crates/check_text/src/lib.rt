@@ -2,5 +2,6 @@
 #![tactic(auto)]
 
 pub mod events;
+pub mod hex;
 pub mod lines;
 pub mod pattern;
