@@ -180,13 +180,17 @@ fn start_block(text: usize, start: &[u8]) -> Result<[u8; 16], Refusal>
     Ok(block)
 }
 
-// The tests in their order, and then the chain under the key's round keys.
+// The tests in their order, and then the chain under the key's round keys: no key is set up for what is refused.
 fn under_key<W: Way>(key: &[u8], bytes: &[u8], start: &[u8], out: &mut [u8]) -> Result<(), Refusal>
     ensures number { number result ≡ chain_number (length key.now) (length bytes.now) (length start.now) (length out.old) }
     ensures written { out.new ≡ left (chain_number (length key.now) (length bytes.now) (length start.now) (length out.old)) (W.chained (schedule key.now) start.now bytes.now) out.old }
 {
-    let cipher = Serpent::new_from_slice(key)?;
+    Serpent::check_key(key.len())?;
     let start = start_block(bytes.len(), start)?;
+    if out.len() < bytes.len() {
+        return Err(Refusal::OutShort);
+    }
+    let cipher = Serpent::new_from_slice(key)?;
     under_round_keys::<W>(&cipher.round_keys, bytes, start, out)
 }
 

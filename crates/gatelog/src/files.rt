@@ -1,4 +1,6 @@
 // Files, standard input and words of the command line, each put into a lent buffer.
+ghost use Rattle.std.specs.Prelude.{◌≤◌, IfOk, length};
+
 use crate::trouble::Reason;
 use std::env::{Env, FillError};
 use std::io::{ErrorKind, Input, Read};
@@ -13,7 +15,9 @@ fn open<R: Files>(rt: &R, path: &[u8]) -> io::Result<R::File> {
 
 // Reads to the end, or until the buffer is full. After an error the buffer may hold what was read before it. Of std's
 // methods `read_exact` fails at the end, and the others need an allocator.
-fn load<'a, F: Read>(file: &mut F, buf: &'a mut [u8]) -> Result<&'a [u8], Reason> {
+fn load<'a, F: Read>(file: &mut F, buf: &'a mut [u8]) -> Result<&'a [u8], Reason>
+    ensures { IfOk result (λ read. length read.now ≤ length buf.old) }
+{
     let mut size = 0;
     while size < buf.len() {
         match file.read(&mut buf[size..])? {
@@ -24,12 +28,16 @@ fn load<'a, F: Read>(file: &mut F, buf: &'a mut [u8]) -> Result<&'a [u8], Reason
     Ok(&buf[..size])
 }
 
-pub fn load_file<'a, R: Files>(rt: &R, path: &[u8], buf: &'a mut [u8]) -> Result<&'a [u8], Reason> {
+pub fn load_file<'a, R: Files>(rt: &R, path: &[u8], buf: &'a mut [u8]) -> Result<&'a [u8], Reason>
+    ensures { IfOk result (λ read. length read.now ≤ length buf.old) }
+{
     let mut file = open(rt, path)?;
     load(&mut file, buf)
 }
 
-pub fn load_input<'a, R: Input>(rt: &R, buf: &'a mut [u8]) -> Result<&'a [u8], Reason> {
+pub fn load_input<'a, R: Input>(rt: &R, buf: &'a mut [u8]) -> Result<&'a [u8], Reason>
+    ensures { IfOk result (λ read. length read.now ≤ length buf.old) }
+{
     load(&mut rt.reader(), buf)
 }
 

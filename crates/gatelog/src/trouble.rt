@@ -55,6 +55,22 @@ pub struct Trouble<'a> {
     reason: Reason,
 }
 
+// Hands what is written on to another writer, piece by piece: what that one does not take is lost, and the next piece is
+// tried all the same.
+#[derive(Drop)]
+pub struct Lossy<'a, E>(pub &'a mut E);
+
+impl<E: Write> Write for Lossy<'_, E> {
+    fn write(&mut self, buf: &[u8]) -> io::Result<usize> {
+        let _ = self.0.write_all(buf);
+        Ok(buf.len())
+    }
+
+    fn flush(&mut self) -> io::Result<()> {
+        Ok(())
+    }
+}
+
 impl Trouble<'_> {
     // gatelog: NAME: SENTENCE
     pub fn write_to<E: Write>(&self, err: &mut E) -> io::Result<()> {

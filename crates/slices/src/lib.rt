@@ -41,13 +41,18 @@ impl Way for Deciphering {
     }
 }
 
-// The tests in their order, and then the block under the key's round keys, into the first bytes of `out`.
+// The tests in their order, and then the block under the key's round keys, into the first bytes of `out`: no key is set
+// up for what is refused.
 fn under_key<W: Way>(key: &[u8], block: &[u8], out: &mut [u8]) -> Result<(), Refusal>
     ensures number { number result ≡ block_number (length key.now) (length block.now) (length out.old) }
     ensures written { out.new ≡ left (block_number (length key.now) (length block.now) (length out.old)) (W.of_block (schedule key.now) block.now) out.old }
 {
-    let cipher = Serpent::new_from_slice(key)?;
+    Serpent::check_key(key.len())?;
     let block = single_block(block)?;
+    if out.len() < 16 {
+        return Err(Refusal::OutShort);
+    }
+    let cipher = Serpent::new_from_slice(key)?;
     put_answer(&W::block(&cipher.round_keys, block), out)
 }
 
