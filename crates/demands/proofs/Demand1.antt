@@ -96,6 +96,7 @@ use Rattle.frame.proofs.Frame.blocks.Reads as the_blocks
 use Rattle.frame.proofs.Frame.count.Reads as the_count
 use Rattle.frame.proofs.open_frame.Reads as the_opened_frame
 use Rattle.frame.proofs.frame_blocks.Reads as the_frame_blocks
+use Rattle.frame.proofs.parts.start_block.Reads as the_start_block
 use Rattle.frame.proofs.parts.frame_start.Reads as the_frame_start
 use Rattle.frame.proofs.parts.frame_place.Reads as the_frame_place
 use Rattle.frame.proofs.parts.frame_length.Reads as the_frame_length
@@ -272,6 +273,7 @@ pub record OneAnswer : Type 0 where
   pub blocks : Determines the_blocks.Post (λ κs x s. x.now)
   pub count : OneResult the_count.Post
   pub frame_blocks_lem : Determines the_frame_blocks.Post (λ κs x s. x.now)
+  pub start_block : OneResult the_start_block.Post
   pub frame_start : OneResult the_frame_start.Post
   pub frame_start_out : Determines the_frame_start.Post (λ κs x s. s.1.0.now)
   pub frame_place_lem : OneResult the_frame_place.Post
@@ -479,6 +481,7 @@ one_answer = record {
   blocks = λ κs a x y s t p q. once p q;
   count = λ κs a x y s t p q. once p q;
   frame_blocks_lem = λ κs a x y s t p q. once p q;
+  start_block = λ κs a x y s t p q. once p q;
   frame_start = λ κs a x y s t p q. same_done x y p.0 q.0;
   frame_start_out = λ κs a x y s t p q. once p.1 q.1;
   frame_place_lem = λ κs a x y s t p q. once p q;
