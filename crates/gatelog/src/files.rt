@@ -42,13 +42,11 @@ pub fn load_input<'a, R: Input>(rt: &R, buf: &'a mut [u8]) -> Result<&'a [u8], R
 }
 
 // An argument, by its number.
-pub fn argument<'a, R: Env>(
-    rt: &R,
-    number: usize,
-    buf: &'a mut [u8],
-) -> Result<&'a [u8], FillError> {
-    let size = rt.arg(number, buf)?;
-    Ok(&buf[..size])
+pub fn argument<'a, R: Env>(rt: &R, number: usize, buf: &'a mut [u8]) -> Result<&'a [u8], FillError>
+    ensures { IfOk result (λ word. length word.now ≤ length buf.old) }
+{
+    let length = rt.arg(number, buf)?;
+    Ok(&buf[..length])
 }
 
 // Whether the command was started with an argument of that number, however long.
