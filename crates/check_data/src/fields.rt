@@ -1,8 +1,8 @@
 // The fields of a line: numbers, and bytes in pieces that a comma parts.
-ghost use Rattle.std.specs.Prelude.{◌≤◌, IfOk, vec_len};
+ghost use Rattle.std.specs.Prelude.{◌≤◌, IfOk, length};
+ghost use Rattle.std.specs.Counts.{IsPrefixLen};
 
 use check_text::hex;
-use std::alloc::{AllocError, Global};
 use std::num::ParseIntError;
 use std::str::Utf8Error;
 
@@ -13,13 +13,6 @@ pub const MOST: usize = 4224;
 #[derive(Clone, Copy, Debug, PartialEq, Eq)]
 pub enum LineError {
     Malformed,
-    OutOfMemory,
-}
-
-impl From<AllocError> for LineError {
-    fn from(_error: AllocError) -> LineError {
-        LineError::OutOfMemory
-    }
 }
 
 impl From<ParseIntError> for LineError {
@@ -42,57 +35,67 @@ pub fn number_of(field: &str) -> Result<u64, LineError> {
     Ok(field.parse()?)
 }
 
-// A byte so many times.
-fn repeated(alloc: Global, times: &str, digits: &str) -> Result<Vec<u8>, LineError> {
-    let times = number_of(times)?;
+// Puts a byte so many times into the front of `out`, and answers how many.
+fn repeated(times: &str, digits: &str, out: &mut [u8]) -> Result<usize, LineError>
+    ensures { IfOk result (λ size. IsPrefixLen size out.new) }
+{
+    let times = number_of(times)? as usize;
     let [high, low] = digits.as_bytes() else {
         return Err(LineError::Malformed);
     };
     let byte = hex::byte_of(*high, *low).ok_or(LineError::Malformed)?;
-    if times > MOST as u64 {
-        return Err(LineError::Malformed);
-    }
-    Ok(vec![in alloc; byte; times as usize]?)
+    out.get_mut(..times).ok_or(LineError::Malformed)?.fill(byte);
+    Ok(times)
 }
 
-// The bytes that digits spell, the last one first where `reversed`.
-fn spelt(alloc: Global, digits: &str, reversed: bool) -> Result<Vec<u8>, LineError> {
-    let mut bytes = vec![in alloc; 0; digits.len() / 2]?;
-    hex::bytes_of(digits.as_bytes(), reversed, &mut bytes).ok_or(LineError::Malformed)?;
-    Ok(bytes)
+// Puts a number into the front of `out`, and answers that it is eight bytes.
+fn put_number(number: u64, out: &mut [u8]) -> Result<usize, LineError>
+    ensures { IfOk result (λ size. IsPrefixLen size out.new) }
+{
+    let bytes = out.first_chunk_mut::<8>().ok_or(LineError::Malformed)?;
+    *bytes = number.to_be_bytes();
+    Ok(8)
 }
 
-// A piece of a field: `N*BB`, a byte so many times; `+N` or `-N`, a number with its sign as eight bytes in two's
-// complement; and digits, behind a `~` where the last byte is printed first.
-fn piece_of(alloc: Global, piece: &str) -> Result<Vec<u8>, LineError> {
+// Puts the bytes that digits spell, the last one first where `reversed`, and answers how many they are.
+fn spelt(digits: &str, reversed: bool, out: &mut [u8]) -> Result<usize, LineError>
+    ensures { IfOk result (λ size. IsPrefixLen size out.new) }
+{
+    hex::bytes_of(digits.as_bytes(), reversed, out).ok_or(LineError::Malformed)
+}
+
+// Puts a piece of a field into the front of `out`, and answers how many bytes it is: `N*BB`, a byte so many times; `+N`
+// or `-N`, a number with its sign as eight bytes in two's complement; and digits, behind a `~` where the last byte is
+// printed first.
+fn put_piece(piece: &str, out: &mut [u8]) -> Result<usize, LineError>
+    ensures { IfOk result (λ size. IsPrefixLen size out.new) }
+{
     if let Some((times, digits)) = piece.split_once('*') {
-        return repeated(alloc, times, digits);
+        return repeated(times, digits, out);
     }
     if let Some(number) = piece.strip_prefix('+') {
-        let value = number_of(number)?;
-        return Ok(value.to_be_bytes().to_vec(alloc)?);
+        return put_number(number_of(number)?, out);
     }
     if let Some(number) = piece.strip_prefix('-') {
-        let value = number_of(number)?.wrapping_neg();
-        return Ok(value.to_be_bytes().to_vec(alloc)?);
+        return put_number(number_of(number)?.wrapping_neg(), out);
     }
     if let Some(digits) = piece.strip_prefix('~') {
-        return spelt(alloc, digits, true);
+        return spelt(digits, true, out);
     }
-    spelt(alloc, piece, false)
+    spelt(piece, false, out)
 }
 
-// The bytes of a field. No piece of it is empty.
-pub fn bytes_of(alloc: Global, field: &str) -> Result<Vec<u8>, LineError>
-    ensures { IfOk result (λ bytes. vec_len bytes ≤ MOST) }
+// The bytes of a field, which are put into the front of `room`. No piece of it is empty.
+pub fn bytes_of<'a>(field: &str, room: &'a mut [u8; MOST]) -> Result<&'a [u8], LineError>
+    ensures { IfOk result (λ bytes. length bytes.now ≤ MOST) }
 {
-    let mut bytes = Vec::new(alloc);
+    let mut size = 0;
     for piece in field.split(',') {
-        let more = piece_of(alloc, piece)?;
-        bytes.extend_from_slice(&more)?;
-        if more.is_empty() || bytes.len() > MOST {
+        let more = put_piece(piece, &mut room[size..])?;
+        if more == 0 {
             return Err(LineError::Malformed);
         }
+        size += more;
     }
-    Ok(bytes)
+    Ok(&room[..size])
 }
