@@ -4,6 +4,7 @@ ghost use Rattle.std.specs.Counts.{IsPrefixLen};
 
 use check_text::hex;
 use std::num::ParseIntError;
+use std::str;
 use std::str::Utf8Error;
 
 // The most bytes of a field.
@@ -28,27 +29,24 @@ impl From<Utf8Error> for LineError {
 }
 
 // A number: decimal digits, below 2^64.
-pub fn number_of(field: &str) -> Result<u64, LineError> {
-    if !field.bytes().all(|byte| byte.is_ascii_digit()) {
+pub fn number_of(field: &[u8]) -> Result<u64, LineError> {
+    if !field.iter().all(|byte| byte.is_ascii_digit()) {
         return Err(LineError::Malformed);
     }
-    Ok(field.parse()?)
+    Ok(str::from_utf8(field)?.parse()?)
 }
 
-// Puts a byte so many times into the front of `out`, and answers how many.
-fn repeated(times: &str, digits: &str, out: &mut [u8]) -> Result<usize, LineError>
+// Puts the byte that two digits spell so many times into the front of `out`, and answers how many.
+fn repeated(times: u64, high: u8, low: u8, out: &mut [u8]) -> Result<usize, LineError>
     ensures { IfOk result (λ size. IsPrefixLen size out.new) }
 {
-    let times = number_of(times)? as usize;
-    let [high, low] = digits.as_bytes() else {
-        return Err(LineError::Malformed);
-    };
-    let byte = hex::byte_of(*high, *low).ok_or(LineError::Malformed)?;
+    let times = times as usize;
+    let byte = hex::byte_of(high, low).ok_or(LineError::Malformed)?;
     out.get_mut(..times).ok_or(LineError::Malformed)?.fill(byte);
     Ok(times)
 }
 
-// Puts a number into the front of `out`, and answers that it is eight bytes.
+// Puts the eight bytes of a number into the front of `out`, the highest first, and answers how many they are.
 fn put_number(number: u64, out: &mut [u8]) -> Result<usize, LineError>
     ensures { IfOk result (λ size. IsPrefixLen size out.new) }
 {
@@ -57,40 +55,34 @@ fn put_number(number: u64, out: &mut [u8]) -> Result<usize, LineError>
     Ok(8)
 }
 
-// Puts the bytes that digits spell, the last one first where `reversed`, and answers how many they are.
-fn spelt(digits: &str, reversed: bool, out: &mut [u8]) -> Result<usize, LineError>
+// Puts the bytes that digits spell into the front of `out`, the last one first where `reversed`, and answers how many.
+fn spelt(digits: &[u8], reversed: bool, out: &mut [u8]) -> Result<usize, LineError>
     ensures { IfOk result (λ size. IsPrefixLen size out.new) }
 {
-    hex::bytes_of(digits.as_bytes(), reversed, out).ok_or(LineError::Malformed)
+    hex::bytes_of(digits, reversed, out).ok_or(LineError::Malformed)
 }
 
 // Puts a piece of a field into the front of `out`, and answers how many bytes it is: `N*BB`, a byte so many times; `+N`
 // or `-N`, a number with its sign as eight bytes in two's complement; and digits, behind a `~` where the last byte is
 // printed first.
-fn put_piece(piece: &str, out: &mut [u8]) -> Result<usize, LineError>
+fn put_piece(piece: &[u8], out: &mut [u8]) -> Result<usize, LineError>
     ensures { IfOk result (λ size. IsPrefixLen size out.new) }
 {
-    if let Some((times, digits)) = piece.split_once('*') {
-        return repeated(times, digits, out);
+    match piece {
+        [times @ .., b'*', high, low] => repeated(number_of(times)?, *high, *low, out),
+        [b'+', digits @ ..] => put_number(number_of(digits)?, out),
+        [b'-', digits @ ..] => put_number(number_of(digits)?.wrapping_neg(), out),
+        [b'~', digits @ ..] => spelt(digits, true, out),
+        digits => spelt(digits, false, out),
     }
-    if let Some(number) = piece.strip_prefix('+') {
-        return put_number(number_of(number)?, out);
-    }
-    if let Some(number) = piece.strip_prefix('-') {
-        return put_number(number_of(number)?.wrapping_neg(), out);
-    }
-    if let Some(digits) = piece.strip_prefix('~') {
-        return spelt(digits, true, out);
-    }
-    spelt(piece, false, out)
 }
 
 // The bytes of a field, which are put into the front of `room`. No piece of it is empty.
-pub fn bytes_of<'a>(field: &str, room: &'a mut [u8; MOST]) -> Result<&'a [u8], LineError>
+pub fn bytes_of<'a>(field: &[u8], room: &'a mut [u8; MOST]) -> Result<&'a [u8], LineError>
     ensures { IfOk result (λ bytes. length bytes.now ≤ MOST) }
 {
     let mut size = 0;
-    for piece in field.split(',') {
+    for piece in field.split(|byte| *byte == b',') {
         let more = put_piece(piece, &mut room[size..])?;
         if more == 0 {
             return Err(LineError::Malformed);

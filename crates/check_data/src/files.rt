@@ -30,7 +30,7 @@ impl Counts {
     }
 }
 
-// The rest of a line of text, behind what is counted.
+// The counts as they stand behind the name of a file, up to the end of the line.
 impl fmt::Display for Counts {
     fn fmt<W: fmt::Write>(&self, f: &mut fmt::Formatter<W>) -> fmt::Result {
         write!(

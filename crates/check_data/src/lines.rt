@@ -9,6 +9,9 @@ use crate::fields::{LineError, MOST, bytes_of, number_of};
 use check_text::pattern::{FILL, is_answer};
 use std::{fmt, str};
 
+// A field that the operation does not take, or that has no bytes.
+const ABSENT: &[u8] = b"-";
+
 #[derive(Clone, Copy, Debug, PartialEq, Eq)]
 pub enum Verdict {
     Right,
@@ -37,7 +40,7 @@ struct Line<'a> {
     ghost in_range: { room ≤ MOST },
 }
 
-// Room for each field of a line that has bytes.
+// Room for the bytes of the four fields of a line that have them.
 #[derive(Drop)]
 pub struct Rooms {
     pub key: [u8; MOST],
@@ -46,18 +49,13 @@ pub struct Rooms {
     pub answer: [u8; MOST],
 }
 
-// A field as text, where there is one.
-fn text_of(field: Option<&[u8]>) -> Result<&str, LineError> {
-    Ok(str::from_utf8(field.ok_or(LineError::Malformed)?)?)
-}
-
 // The bytes of a field, if the operation takes it.
 fn bytes_if<'a>(
     is_taken: bool,
-    field: &str,
+    field: &[u8],
     room: &'a mut [u8; MOST],
 ) -> Result<&'a [u8], LineError> {
-    if field == "-" {
+    if field == ABSENT {
         return Ok(&[]);
     }
     if !is_taken {
@@ -67,14 +65,19 @@ fn bytes_if<'a>(
 }
 
 // The number of a field, if the operation takes it.
-fn number_if(is_taken: bool, field: &str) -> Result<Option<usize>, LineError> {
+fn number_if(is_taken: bool, field: &[u8]) -> Result<Option<usize>, LineError> {
     if is_taken {
         return Ok(Some(number_of(field)? as usize));
     }
-    if field != "-" {
+    if field != ABSENT {
         return Err(LineError::Malformed);
     }
     Ok(None)
+}
+
+// A field, which no line may lack.
+fn due(field: Option<&[u8]>) -> Result<&[u8], LineError> {
+    field.ok_or(LineError::Malformed)
 }
 
 fn is_space(byte: &u8) -> bool {
@@ -84,25 +87,17 @@ fn is_space(byte: &u8) -> bool {
 // The line that a text says, whose bytes are put into the rooms.
 fn line_of<'a>(text: &[u8], rooms: &'a mut Rooms) -> Result<Line<'a>, LineError> {
     let mut fields = text.split(is_space);
-    let name = text_of(fields.next())?;
+    let name = str::from_utf8(due(fields.next())?)?;
     let (operation, taken) = operation_of(name).ok_or(LineError::Malformed)?;
     let takes = |field: Field| taken.contains(&field);
-    let number = number_of(text_of(fields.next())?)?;
-    let key = bytes_if(takes(Field::Key), text_of(fields.next())?, &mut rooms.key)?;
-    let bytes = bytes_if(
-        takes(Field::Bytes),
-        text_of(fields.next())?,
-        &mut rooms.bytes,
-    )?;
-    let start = bytes_if(
-        takes(Field::Start),
-        text_of(fields.next())?,
-        &mut rooms.start,
-    )?;
-    let place = number_if(takes(Field::Place), text_of(fields.next())?)?.unwrap_or(0);
-    let count = number_if(takes(Field::Count), text_of(fields.next())?)?.unwrap_or(0);
-    let room = number_if(takes(Field::Room), text_of(fields.next())?)?.unwrap_or(MOST);
-    let answer = bytes_if(true, text_of(fields.next())?, &mut rooms.answer)?;
+    let number = number_of(due(fields.next())?)?;
+    let key = bytes_if(takes(Field::Key), due(fields.next())?, &mut rooms.key)?;
+    let bytes = bytes_if(takes(Field::Bytes), due(fields.next())?, &mut rooms.bytes)?;
+    let start = bytes_if(takes(Field::Start), due(fields.next())?, &mut rooms.start)?;
+    let place = number_if(takes(Field::Place), due(fields.next())?)?.unwrap_or(0);
+    let count = number_if(takes(Field::Count), due(fields.next())?)?.unwrap_or(0);
+    let room = number_if(takes(Field::Room), due(fields.next())?)?.unwrap_or(MOST);
+    let answer = bytes_if(true, due(fields.next())?, &mut rooms.answer)?;
     if room > MOST || fields.next().is_some() {
         return Err(LineError::Malformed);
     }
