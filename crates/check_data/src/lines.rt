@@ -1,5 +1,5 @@
-// A line of data: OPERATION NUMBER KEY BYTES START PLACE COUNT ROOM ANSWER, one space apart. `-` stands for a field that
-// the operation does not take, and for no bytes. It says a call, and the number and the bytes that are due from it.
+// A line of data: OPERATION NUMBER KEY BYTES START PLACE COUNT ROOM ANSWER, one space apart. `-` stands for a field
+// that the operation does not take, and for no bytes. It says a call, and the number and bytes that are due from it.
 ghost use Rattle.std.specs.Prelude.{◌≡◌, ◌≤◌, true};
 ghost use Rattle.check_data.specs.declared.fields.TheConstants.{MOST};
 ghost use Rattle.check_text.specs.Pattern.{Answer};
