@@ -89,38 +89,38 @@ impl From<Refusal> for Failure {
 }
 
 // A call. What its operation does not take is empty, or 0.
-#[derive(Drop)]
-pub struct Call {
+#[derive(Clone, Copy, Debug, PartialEq, Eq)]
+pub struct Call<'a> {
     pub operation: Operation,
-    pub key: Vec<u8>,
-    pub bytes: Vec<u8>,
-    pub start: Vec<u8>,
+    pub key: &'a [u8],
+    pub bytes: &'a [u8],
+    pub start: &'a [u8],
     pub place: usize,
     pub count: usize,
 }
 
-impl Call {
+impl Call<'_> {
     // Makes the call.
     pub fn make(&self, out: &mut [u8]) -> Result<(), Failure> {
         let answer = match self.operation {
-            EncryptBlock => slices::encrypt_block(&self.key, &self.bytes, out),
-            DecryptBlock => slices::decrypt_block(&self.key, &self.bytes, out),
-            ExpandKey => parts::expand_key(&self.key, out),
-            NewFromSlice => parts::new_from_slice(&self.key, out),
-            ApplyS => parts::apply_s(self.place, &self.bytes, out),
-            ApplySInv => parts::apply_s_inv(self.place, &self.bytes, out),
-            LinearTransform => parts::linear_transform(&self.bytes, out),
-            LinearTransformInv => parts::linear_transform_inv(&self.bytes, out),
-            Ecb => return ecb(&self.key, &self.bytes, out),
-            EncryptChain => chain::encrypt_chain(&self.key, &self.bytes, &self.start, out),
-            DecryptChain => chain::decrypt_chain(&self.key, &self.bytes, &self.start, out),
-            EncryptBlocks => chain::encrypt_blocks(&ZEROS, &self.bytes, block_of(&self.start), out),
-            DecryptBlocks => chain::decrypt_blocks(&ZEROS, &self.bytes, block_of(&self.start), out),
-            FrameStart => frame_start(&self.bytes, out),
-            ReadWindow => read_window(&self.key, &self.bytes, self.place, self.count, out),
-            OpenFrame => return opening(&self.bytes, out),
-            ReadEvent => reading(&self.bytes, out),
-            Search => searching(&self.key, &self.bytes, self.place, out),
+            EncryptBlock => slices::encrypt_block(self.key, self.bytes, out),
+            DecryptBlock => slices::decrypt_block(self.key, self.bytes, out),
+            ExpandKey => parts::expand_key(self.key, out),
+            NewFromSlice => parts::new_from_slice(self.key, out),
+            ApplyS => parts::apply_s(self.place, self.bytes, out),
+            ApplySInv => parts::apply_s_inv(self.place, self.bytes, out),
+            LinearTransform => parts::linear_transform(self.bytes, out),
+            LinearTransformInv => parts::linear_transform_inv(self.bytes, out),
+            Ecb => return ecb(self.key, self.bytes, out),
+            EncryptChain => chain::encrypt_chain(self.key, self.bytes, self.start, out),
+            DecryptChain => chain::decrypt_chain(self.key, self.bytes, self.start, out),
+            EncryptBlocks => chain::encrypt_blocks(&ZEROS, self.bytes, block_of(self.start), out),
+            DecryptBlocks => chain::decrypt_blocks(&ZEROS, self.bytes, block_of(self.start), out),
+            FrameStart => frame_start(self.bytes, out),
+            ReadWindow => read_window(self.key, self.bytes, self.place, self.count, out),
+            OpenFrame => return opening(self.bytes, out),
+            ReadEvent => reading(self.bytes, out),
+            Search => searching(self.key, self.bytes, self.place, out),
         };
         Ok(answer?)
     }

@@ -1,9 +1,10 @@
 // The fields of a line: numbers, and bytes in pieces that a comma parts.
-ghost use Rattle.std.specs.Prelude.{◌≤◌, IfOk, vec_len};
+ghost use Rattle.std.specs.Prelude.{◌≤◌, IfOk, length};
+ghost use Rattle.std.specs.Counts.{IsPrefixLen};
 
 use check_text::hex;
-use std::alloc::{AllocError, Global};
 use std::num::ParseIntError;
+use std::str;
 use std::str::Utf8Error;
 
 // The most bytes of a field.
@@ -13,13 +14,6 @@ pub const MOST: usize = 4224;
 #[derive(Clone, Copy, Debug, PartialEq, Eq)]
 pub enum LineError {
     Malformed,
-    OutOfMemory,
-}
-
-impl From<AllocError> for LineError {
-    fn from(_error: AllocError) -> LineError {
-        LineError::OutOfMemory
-    }
 }
 
 impl From<ParseIntError> for LineError {
@@ -35,64 +29,65 @@ impl From<Utf8Error> for LineError {
 }
 
 // A number: decimal digits, below 2^64.
-pub fn number_of(field: &str) -> Result<u64, LineError> {
-    if !field.bytes().all(|byte| byte.is_ascii_digit()) {
+pub fn number_of(field: &[u8]) -> Result<u64, LineError> {
+    if !field.iter().all(|byte| byte.is_ascii_digit()) {
         return Err(LineError::Malformed);
     }
-    Ok(field.parse()?)
+    Ok(str::from_utf8(field)?.parse()?)
 }
 
-// A byte so many times.
-fn repeated(alloc: Global, times: &str, digits: &str) -> Result<Vec<u8>, LineError> {
-    let times = number_of(times)?;
-    let [high, low] = digits.as_bytes() else {
-        return Err(LineError::Malformed);
-    };
-    let byte = hex::byte_of(*high, *low).ok_or(LineError::Malformed)?;
-    if times > MOST as u64 {
-        return Err(LineError::Malformed);
-    }
-    Ok(vec![in alloc; byte; times as usize]?)
-}
-
-// The bytes that digits spell, the last one first where `reversed`.
-fn spelt(alloc: Global, digits: &str, reversed: bool) -> Result<Vec<u8>, LineError> {
-    let mut bytes = vec![in alloc; 0; digits.len() / 2]?;
-    hex::bytes_of(digits.as_bytes(), reversed, &mut bytes).ok_or(LineError::Malformed)?;
-    Ok(bytes)
-}
-
-// A piece of a field: `N*BB`, a byte so many times; `+N` or `-N`, a number with its sign as eight bytes in two's
-// complement; and digits, behind a `~` where the last byte is printed first.
-fn piece_of(alloc: Global, piece: &str) -> Result<Vec<u8>, LineError> {
-    if let Some((times, digits)) = piece.split_once('*') {
-        return repeated(alloc, times, digits);
-    }
-    if let Some(number) = piece.strip_prefix('+') {
-        let value = number_of(number)?;
-        return Ok(value.to_be_bytes().to_vec(alloc)?);
-    }
-    if let Some(number) = piece.strip_prefix('-') {
-        let value = number_of(number)?.wrapping_neg();
-        return Ok(value.to_be_bytes().to_vec(alloc)?);
-    }
-    if let Some(digits) = piece.strip_prefix('~') {
-        return spelt(alloc, digits, true);
-    }
-    spelt(alloc, piece, false)
-}
-
-// The bytes of a field. No piece of it is empty.
-pub fn bytes_of(alloc: Global, field: &str) -> Result<Vec<u8>, LineError>
-    ensures { IfOk result (λ bytes. vec_len bytes ≤ MOST) }
+// Puts the byte that two digits spell so many times into the front of `out`, and answers how many.
+fn repeated(times: u64, high: u8, low: u8, out: &mut [u8]) -> Result<usize, LineError>
+    ensures { IfOk result (λ size. IsPrefixLen size out.new) }
 {
-    let mut bytes = Vec::new(alloc);
-    for piece in field.split(',') {
-        let more = piece_of(alloc, piece)?;
-        bytes.extend_from_slice(&more)?;
-        if more.is_empty() || bytes.len() > MOST {
+    let times = times as usize;
+    let byte = hex::byte_of(high, low).ok_or(LineError::Malformed)?;
+    out.get_mut(..times).ok_or(LineError::Malformed)?.fill(byte);
+    Ok(times)
+}
+
+// Puts the eight bytes of a number into the front of `out`, the highest first, and answers how many they are.
+fn put_number(number: u64, out: &mut [u8]) -> Result<usize, LineError>
+    ensures { IfOk result (λ size. IsPrefixLen size out.new) }
+{
+    let bytes = out.first_chunk_mut::<8>().ok_or(LineError::Malformed)?;
+    *bytes = number.to_be_bytes();
+    Ok(8)
+}
+
+// Puts the bytes that digits spell into the front of `out`, the last one first where `reversed`, and answers how many.
+fn spelt(digits: &[u8], reversed: bool, out: &mut [u8]) -> Result<usize, LineError>
+    ensures { IfOk result (λ size. IsPrefixLen size out.new) }
+{
+    hex::bytes_of(digits, reversed, out).ok_or(LineError::Malformed)
+}
+
+// Puts a piece of a field into the front of `out`, and answers how many bytes it is: `N*BB`, a byte so many times; `+N`
+// or `-N`, a number with its sign as eight bytes in two's complement; and digits, behind a `~` where the last byte is
+// printed first.
+fn put_piece(piece: &[u8], out: &mut [u8]) -> Result<usize, LineError>
+    ensures { IfOk result (λ size. IsPrefixLen size out.new) }
+{
+    match piece {
+        [times @ .., b'*', high, low] => repeated(number_of(times)?, *high, *low, out),
+        [b'+', digits @ ..] => put_number(number_of(digits)?, out),
+        [b'-', digits @ ..] => put_number(number_of(digits)?.wrapping_neg(), out),
+        [b'~', digits @ ..] => spelt(digits, true, out),
+        digits => spelt(digits, false, out),
+    }
+}
+
+// The bytes of a field, which are put into the front of `room`. No piece of it is empty.
+pub fn bytes_of<'a>(field: &[u8], room: &'a mut [u8; MOST]) -> Result<&'a [u8], LineError>
+    ensures { IfOk result (λ bytes. length bytes.now ≤ MOST) }
+{
+    let mut size = 0;
+    for piece in field.split(|byte| *byte == b',') {
+        let more = put_piece(piece, &mut room[size..])?;
+        if more == 0 {
             return Err(LineError::Malformed);
         }
+        size += more;
     }
-    Ok(bytes)
+    Ok(&room[..size])
 }

@@ -1,5 +1,5 @@
-// A line of data: OPERATION NUMBER KEY BYTES START PLACE COUNT ROOM ANSWER, one space apart. `-` stands for a field that
-// the operation does not take, and for no bytes. It says a call, and the number and the bytes that are due from it.
+// A line of data: OPERATION NUMBER KEY BYTES START PLACE COUNT ROOM ANSWER, one space apart. `-` stands for a field
+// that the operation does not take, and for no bytes. It says a call, and the number and bytes that are due from it.
 ghost use Rattle.std.specs.Prelude.{◌≡◌, ◌≤◌, true};
 ghost use Rattle.check_data.specs.declared.fields.TheConstants.{MOST};
 ghost use Rattle.check_text.specs.Pattern.{Answer};
@@ -7,9 +7,10 @@ ghost use Rattle.check_text.specs.Pattern.{Answer};
 use crate::calls::{Call, Failure, Field, operation_of};
 use crate::fields::{LineError, MOST, bytes_of, number_of};
 use check_text::pattern::{FILL, is_answer};
-use std::alloc::Global;
-use std::io::ErrorKind;
-use std::{fmt, io, str};
+use std::{fmt, str};
+
+// A field that the operation does not take, or that has no bytes.
+const ABSENT: &[u8] = b"-";
 
 #[derive(Clone, Copy, Debug, PartialEq, Eq)]
 pub enum Verdict {
@@ -18,73 +19,101 @@ pub enum Verdict {
     Malformed,
 }
 
+// A verdict as it stands between the number of a line and its operation.
 impl fmt::Display for Verdict {
     fn fmt<W: fmt::Write>(&self, f: &mut fmt::Formatter<W>) -> fmt::Result {
         f.write_str(match self {
-            Verdict::Right => "right",
-            Verdict::Wrong => "wrong",
-            Verdict::Malformed => "malformed",
+            Verdict::Right => ": right: ",
+            Verdict::Wrong => ": wrong: ",
+            Verdict::Malformed => ": malformed: ",
         })
     }
 }
 
 // What a line says. The call is lent so much room.
 #[derive(Drop)]
-struct Line {
-    call: Call,
+struct Line<'a> {
+    call: Call<'a>,
     room: usize,
     number: u64,
-    answer: Vec<u8>,
+    answer: &'a [u8],
     ghost in_range: { room ≤ MOST },
 }
 
+// Room for the bytes of the four fields of a line that have them.
+#[derive(Drop)]
+pub struct Rooms {
+    pub key: [u8; MOST],
+    pub bytes: [u8; MOST],
+    pub start: [u8; MOST],
+    pub answer: [u8; MOST],
+}
+
 // The bytes of a field, if the operation takes it.
-fn bytes_if(alloc: Global, is_taken: bool, field: &str) -> Result<Vec<u8>, LineError> {
-    if field == "-" {
-        return Ok(Vec::new(alloc));
+fn bytes_if<'a>(
+    is_taken: bool,
+    field: &[u8],
+    room: &'a mut [u8; MOST],
+) -> Result<&'a [u8], LineError> {
+    if field == ABSENT {
+        return Ok(&[]);
     }
     if !is_taken {
         return Err(LineError::Malformed);
     }
-    bytes_of(alloc, field)
+    bytes_of(field, room)
 }
 
 // The number of a field, if the operation takes it.
-fn number_if(is_taken: bool, field: &str) -> Result<Option<usize>, LineError> {
+fn number_if(is_taken: bool, field: &[u8]) -> Result<Option<usize>, LineError> {
     if is_taken {
         return Ok(Some(number_of(field)? as usize));
     }
-    if field != "-" {
+    if field != ABSENT {
         return Err(LineError::Malformed);
     }
     Ok(None)
 }
 
-// The line that a text says.
-fn line_of(alloc: Global, text: &[u8]) -> Result<Line, LineError> {
-    let fields: Vec<&str> = str::from_utf8(text)?.split(' ').collect(alloc)?;
-    let [name, number, key, bytes, start, place, count, room, answer] = fields.as_slice() else {
-        return Err(LineError::Malformed);
-    };
+// A field, which no line may lack.
+fn due(field: Option<&[u8]>) -> Result<&[u8], LineError> {
+    field.ok_or(LineError::Malformed)
+}
+
+fn is_space(byte: &u8) -> bool {
+    *byte == b' '
+}
+
+// The line that a text says, whose bytes are put into the rooms.
+fn line_of<'a>(text: &[u8], rooms: &'a mut Rooms) -> Result<Line<'a>, LineError> {
+    let mut fields = text.split(is_space);
+    let name = str::from_utf8(due(fields.next())?)?;
     let (operation, taken) = operation_of(name).ok_or(LineError::Malformed)?;
     let takes = |field: Field| taken.contains(&field);
-    let room = number_if(takes(Field::Room), room)?.unwrap_or(MOST);
-    if room > MOST {
+    let number = number_of(due(fields.next())?)?;
+    let key = bytes_if(takes(Field::Key), due(fields.next())?, &mut rooms.key)?;
+    let bytes = bytes_if(takes(Field::Bytes), due(fields.next())?, &mut rooms.bytes)?;
+    let start = bytes_if(takes(Field::Start), due(fields.next())?, &mut rooms.start)?;
+    let place = number_if(takes(Field::Place), due(fields.next())?)?.unwrap_or(0);
+    let count = number_if(takes(Field::Count), due(fields.next())?)?.unwrap_or(0);
+    let room = number_if(takes(Field::Room), due(fields.next())?)?.unwrap_or(MOST);
+    let answer = bytes_if(true, due(fields.next())?, &mut rooms.answer)?;
+    if room > MOST || fields.next().is_some() {
         return Err(LineError::Malformed);
     }
     let call = Call {
         operation,
-        key: bytes_if(alloc, takes(Field::Key), key)?,
-        bytes: bytes_if(alloc, takes(Field::Bytes), bytes)?,
-        start: bytes_if(alloc, takes(Field::Start), start)?,
-        place: number_if(takes(Field::Place), place)?.unwrap_or(0),
-        count: number_if(takes(Field::Count), count)?.unwrap_or(0),
+        key,
+        bytes,
+        start,
+        place,
+        count,
     };
     Ok(Line {
         call,
         room,
-        number: number_of(number)?,
-        answer: bytes_if(alloc, true, answer)?,
+        number,
+        answer,
     })
 }
 
@@ -97,7 +126,7 @@ fn is_right(number: u32, wanted: u64, out: &[u8], answer: &[u8]) -> bool
     u64::from(number) == wanted && is_answer(out, answer)
 }
 
-impl Line {
+impl Line<'_> {
     // Makes the call, in room that is filled before.
     fn verdict(&self) -> Verdict {
         let mut out = [FILL; MOST];
@@ -106,18 +135,17 @@ impl Line {
             Err(Failure::Refused(refusal)) => Err(refusal),
             Err(Failure::NotBack | Failure::TwoAnswers) => return Verdict::Wrong,
         };
-        if is_right(answers::number_of(&answer), self.number, &out, &self.answer) {
+        if is_right(answers::number_of(&answer), self.number, &out, self.answer) {
             return Verdict::Right;
         }
         Verdict::Wrong
     }
 }
 
-// Makes the call of a line, and compares.
-pub fn check_line(alloc: Global, line: &[u8]) -> io::Result<Verdict> {
-    match line_of(alloc, line) {
-        Ok(line) => Ok(line.verdict()),
-        Err(LineError::Malformed) => Ok(Verdict::Malformed),
-        Err(LineError::OutOfMemory) => Err(ErrorKind::OutOfMemory.into()),
+// Makes the call of a line, whose bytes are put into the rooms, and compares.
+pub fn check_line(line: &[u8], rooms: &mut Rooms) -> Verdict {
+    match line_of(line, rooms) {
+        Ok(line) => line.verdict(),
+        Err(LineError::Malformed) => Verdict::Malformed,
     }
 }
