@@ -3,8 +3,8 @@ use crate::values::{event_numbers, put_numbers};
 use Field::*;
 use Operation::*;
 use answers::{Refusal, put_answer};
-use event::{Event, read_event};
-use frame::parts::frame_start;
+use event::{no_event, read_event};
+use frame::parts::{frame_start, start_block};
 use frame::window::read_window;
 use frame::{check_frame, frame_blocks, open_frame};
 use search::{Found, search};
@@ -156,7 +156,7 @@ fn opening(frame: &[u8], out: &mut [u8]) -> Result<(), Failure> {
     let Some((start, blocks)) = out.split_first_chunk_mut::<16>() else {
         return Err(Failure::Refused(Refusal::OutShort));
     };
-    start.copy_from_slice(&opened.map_or([0; 16], |opened| opened.start()));
+    *start = start_block(frame);
     put_answer(frame_blocks(frame), blocks)?;
     let answer = opened.map(|_| ());
     if answer != check_frame(frame) {
@@ -168,7 +168,7 @@ fn opening(frame: &[u8], out: &mut [u8]) -> Result<(), Failure> {
 // An event's fields: zeros of one that is refused.
 fn reading(bytes: &[u8], out: &mut [u8]) -> Result<(), Refusal> {
     let answer = read_event(bytes);
-    put_numbers(&event_numbers(&answer.unwrap_or_default()), out, 0);
+    put_numbers(&event_numbers(&answer.unwrap_or(no_event())), out, 0);
     answer.map(|_| ())
 }
 
@@ -180,7 +180,7 @@ fn searching(key: &[u8], frame: &[u8], place: usize, out: &mut [u8]) -> Result<(
             Found {
                 place: 0,
                 tries: missed.tries(),
-                event: Event::default(),
+                event: no_event(),
             },
             Err(missed.refusal()),
         ),
