@@ -1,11 +1,14 @@
 -- One block under a key, over slices: what number 0 tells of the lengths, and when each number is given.
 -- Assumes nothing.
-use mathlib.Core.Path.{◌≡◌, ◌∙◌}
+use mathlib.Core.Path.{◌≡◌, sym, ◌∙◌}
+use mathlib.Core.List.{List}
 use Prim.Native.Nat.{ℕ, suc, ◌≤◌, ◌<◌}
 use native.Mathlib.Omega.{arith}
 use borrow.Author.Tests.{lt-ltb, le-ltb, ltb-false, eq-eqb, ne_eqb, eqb-true}
-use Rattle.answers.specs.Answers.{◌when◌, on_done, first_number}
+use Rattle.answers.specs.Answers.{◌when◌, on_done, first_number, left}
+use Rattle.answers.specs.declared.Refusal.TheVariants.{TextLength}
 use Rattle.answers.proofs.Answers.{first_here, passed, not_held, holds}
+use Rattle.answers.proofs.Numbers.{kept}
 use Rattle.serpent.specs.Keys.{key_number}
 use Rattle.slices.specs.Blocks.{block_number}
 
@@ -39,6 +42,12 @@ module _ (key block out : ℕ) where
   pub bad_block : key_number key ≡ 0 → (block ≡ 16 → ⊥) → block_number key block out ≡ 2
   unfolding block_number first_number on_done ◌when◌
   bad_block e h = simp (e, ne_eqb _ _ h)
+
+  pub other_block : 0 ≡ key_number key → (block ≡ 16 → ⊥) → 2 ≡ block_number key block out
+  other_block e h = sym (bad_block (sym e) h)
+
+  pub other_kept : (answer buffer : List ℕ) → 0 ≡ key_number key → (block ≡ 16 → ⊥) → buffer ≡ left (block_number key block out) answer buffer
+  other_kept answer buffer e h = kept TextLength answer buffer (other_block e h)
 
   pub short_buffer : key_number key ≡ 0 → block ≡ 16 → out < 16 → block_number key block out ≡ 5
   unfolding block_number first_number on_done ◌when◌

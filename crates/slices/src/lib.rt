@@ -43,6 +43,7 @@ impl Way for Deciphering {
 
 // The tests in their order, and then the block under the key's round keys, into the first bytes of `out`: no key is set
 // up for what is refused.
+#[tactic(auto, using(crate::proofs::OneBlock::other_block, crate::proofs::OneBlock::other_kept))]
 fn under_key<W: Way>(key: &[u8], block: &[u8], out: &mut [u8]) -> Result<(), Refusal>
     ensures number { number result ≡ block_number (length key.now) (length block.now) (length out.old) }
     ensures written { out.new ≡ left (block_number (length key.now) (length block.now) (length out.old)) (W.of_block (schedule key.now) block.now) out.old }

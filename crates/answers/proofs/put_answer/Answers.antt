@@ -1,9 +1,6 @@
 -- `answers::put_answer` meets its contract. Assumes nothing.
-use mathlib.Core.Path.{sym, ap, ◌∙◌}
-use mathlib.Core.List.{List, ◌++◌}
-use Prim.Native.Nat.{ℕ}
-use native.Mathlib.Omega.{arith}
-use lib.ListN.{length, drop}
+use Rattle.std.proofs.Common.{sym, arith, rules}
+use Rattle.std.proofs.lemmas.Slice.{overwrites}
 use Rattle.answers.specs.Answers.{front}
 use Rattle.answers.proofs.Answers.{left_done, left_refused, short, roomy}
 use Rattle.answers.proofs.put_answer.Goals as goal
@@ -21,5 +18,5 @@ returns c =
     let a = c.args in
     let n = roomy _ _ c.if-out-answer.false in record {
       number = sym n;
-      written = ap (λ (l : List ℕ). l ++ drop (length a.answer.now) a.out.now) c.copy_from_slice.ensures.after ∙ sym (left_done _ _ n);
+      written = search (rules, overwrites, left_done a.answer.now a.out.now n);
     }

@@ -1,6 +1,6 @@
 -- `Deciphering::chain` meets its contract: each loop goes on from where the one before it ended. Assumes nothing.
-use Rattle.std.proofs.Common.{◌≡◌, ◌+◌, ◌*◌, ◌/◌, ◌<◌, ◌≤◌, [], length, take, drop, get_or, refl, sym, ap, ◌∙◌, arith}
-use lib.Seq.{drop-drop}
+use Rattle.std.proofs.Common.{◌≡◌, ◌+◌, ◌*◌, ◌/◌, ◌<◌, ◌≤◌, [], length, take, drop, get_or, refl, sym, ap, ◌∙◌, arith, rules}
+use lib.Seq.{drop-drop, get_or-take, get_or-drop}
 use Rattle.words.proofs.Chunks.{chunk_at}
 use Rattle.words.proofs.Filled.{filled_none}
 use Rattle.serpent.specs.Block.{decrypt_bytes}
@@ -28,16 +28,16 @@ loop-i-preserved c =
     let i = c.loop-i.i in
     let place = length c.as_chunks.result.0.now * 16 + i in
     let D = decrypt_bytes c.args.round_keys.now in
-    let there : i < length rest / 16 = omega (arith, c.as_chunks-2.ensures.front_len, c.loop-i-test.true) in
+    let there : i < length rest / 16 = search rules in
     let at : length cipher / 256 * 256 + i * 16 ≡ place * 16 = omega (arith, c.as_chunks.ensures.front_len) in
     let within : place * 16 + 16 ≤ length cipher = omega (arith, c.as_chunks.ensures.front_len, c.as_chunks.ensures.back_len) in
     let here : get_or c.as_chunks-2.result.0.now i [] ≡ block place cipher =
     ap (λ cs. get_or cs i []) c.as_chunks-2.ensures.front ∙ chunk_at 16 _ i rest [] there
     ∙ ap (λ x. take 16 (drop (i * 16) x)) c.as_chunks.ensures.back
     ∙ ap (take 16) (drop-drop (i * 16) (length cipher / 256 * 256) cipher ∙ ap (λ n. drop n cipher) at) in
-    let put = c.decrypt_link-text.ensures ∙ ap (λ x. xor (D x) c.loop-i.before) here in
+    let put = c.decrypt_link-text.ensures ∙ ap (λ x. xor (D x) c.loop-i.before) (search (rules, get_or-take, get_or-drop, here)) in
     let room : place * 16 + 16 ≤ length c.loop-i.out = omega (arith, within, c.requires, c.loop-s.auto.out, c.loop-i.auto.out) in
-    let more = onward_one D put here c.put_block.ensures c.decrypt_link-text.type_inv.1.0.1 room in
+    let more = onward_one D put (search (rules, get_or-take, get_or-drop, here)) c.put_block.ensures c.decrypt_link-text.type_inv.1.0.1 room in
     onward_to (omega arith) (onward_then c.loop-i.invariant more)
 
 pub returns : goal.returns
@@ -47,8 +47,7 @@ returns c =
     let cipher = a.cipher.now in
     let D = decrypt_bytes a.round_keys.now in
     let sixteens : c.loop-s.s * 16 ≡ length c.as_chunks.result.0.now * 16 = omega arith in
-    let all : length c.as_chunks.result.0.now * 16 + c.loop-i.i ≡ length cipher / 16 =
-    omega (arith, c.as_chunks.ensures.front_len, c.as_chunks.ensures.back_len, c.as_chunks-2.ensures.front_len) in
+    let all : length c.as_chunks.result.0.now * 16 + c.loop-i.i ≡ length cipher / 16 = search rules in
     let begun : At D a.start cipher a.out.now a.out.now a.start 0 = record { last = refl; filled = filled_none _ } in
     let went = onward_then (onward_to sixteens c.loop-s.invariant) (onward_to all c.loop-i.invariant) in
     filled_all a.out.now c.loop-i.out _ _ (went.on a.start a.out.now begun).filled (omega (arith, c.requires, went.size))

@@ -2,8 +2,9 @@
 use Prim.Native.Nat.{ℕ, ◌/◌, ◌<◌}
 use mathlib.Core.Path.{◌≡◌, refl, sym, ap, ap₂, ◌∙◌}
 use mathlib.Core.List.{List, []}
-use native.Mathlib.Omega.{arith}
+use Rattle.std.proofs.Common.{arith, rules}
 use lib.ListN.{length, get_or}
+use lib.Seq.{get_or-take}
 use Rattle.words.proofs.Chunks.{chunk_at}
 use Rattle.serpent.specs.Block.{encrypt_bytes}
 use Rattle.chain.specs.Chain.{xor, last_or, blocks, encipher, join}
@@ -25,11 +26,11 @@ loop-i-preserved c =
     let E = encrypt_bytes a.round_keys.now in
     let cipher = c.encrypt_link-cipher.result in
     let size : length cipher ≡ 16 = c.encrypt_link-cipher.type_inv.1.0.1 in
-    let there : i < length a.text.now / 16 = omega (arith, c.as_chunks.ensures.front_len, c.loop-i-test.true) in
+    let there : i < length a.text.now / 16 = search rules in
     let here : get_or c.as_chunks.result.0.now i [] ≡ block i a.text.now =
     ap (λ cs. get_or cs i []) c.as_chunks.ensures.front ∙ chunk_at 16 _ i a.text.now [] there in
     let same : cipher ≡ next E a.start i a.text.now =
-    c.encrypt_link-cipher.ensures ∙ ap₂ (λ (x y : List ℕ). E (xor x y)) here c.loop-i.invariant.0 in (
+    c.encrypt_link-cipher.ensures ∙ ap₂ (λ (x y : List ℕ). E (xor x y)) (search (rules, get_or-take, here)) c.loop-i.invariant.0 in (
       same ∙ sym (last_next E a.start i a.text.now),
       rw (c.put_block.ensures, encipher_more E a.start i a.text.now, ← same)
           (filled_more a.out.now c.loop-i.out i _ cipher c.loop-i.invariant.1 size (omega (arith, c.requires, c.loop-i.invariant.1.size))),
@@ -39,5 +40,5 @@ pub returns : goal.returns
 unfolding enciphered
 returns c =
     let a = c.args in
-    let all : c.loop-i.i ≡ length a.text.now / 16 = omega (arith, c.as_chunks.ensures.front_len) in
+    let all : c.loop-i.i ≡ length a.text.now / 16 = search rules in
     filled_all a.out.now c.loop-i.out (length a.text.now / 16) _ (rw all at c.loop-i.invariant.1) (omega (arith, c.requires, c.loop-i.invariant.1.size))

@@ -1,5 +1,4 @@
 -- `slices::parts::round_key_bytes` meets its contract: a turn puts the four bytes of its word. Assumes nothing.
-use mathlib.Core.Path.{◌∙◌}
 use lib.ListN.{get_or}
 use Rattle.std.specs.Int.{to_le_bytes}
 use Rattle.std.proofs.Common.{◌≡◌, rules, w32}
@@ -8,6 +7,5 @@ use Rattle.slices.proofs.parts.round_key_bytes.Goals as goal
 
 pub loop-i-preserved : goal.loop-i-preserved
 loop-i-preserved c =
-    let word : c.copy_from_slice.new.self ≡ to_le_bytes w32 (get_or c.args.round_keys.now c.loop-i.i 0) =
-    c.copy_from_slice.ensures.after ∙ c.to_le_bytes.ensures in
+    let word : c.copy_from_slice.new.self ≡ to_le_bytes w32 (get_or c.args.round_keys.now c.loop-i.i 0) = search rules in
     search (rules, word_by_word)
